@@ -1,0 +1,4 @@
+pub mod Halves
+pub mod Climbing
+pub mod Membership
+pub mod Tested
