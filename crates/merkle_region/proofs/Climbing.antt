@@ -1,10 +1,9 @@
 -- Climbing a path: step by step, with one more sibling at its end, and from a place in the right half.
-use Rattle.std.proofs.Common.{◌≡◌, ℕ, suc, ◌+◌, ◌*◌, ◌/◌, ◌%◌, ◌^◌, ◌<◌, ◌≤◌, ◌∙◌, List, [], ◌∷◌, ◌++◌, length, get_or, drop, refl, ap, sym, arith}
+use Rattle.std.proofs.Common.{◌≡◌, ℕ, suc, ◌+◌, ◌*◌, ◌/◌, ◌%◌, ◌^◌, ◌<◌, ◌≤◌, ◌∙◌, List, [], ◌∷◌, ◌++◌, length, get_or, drop, refl, ap, arith}
 use Rattle.std.proofs.Math.Nat.{pow-suc}
 use Rattle.std.proofs.Math.Numerals.{one-add}
-use Rattle.std.proofs.lemmas.Nat.{shr-shr, div-mul-add, pow_pos}
+use Rattle.std.proofs.lemmas.Nat.{shr-shr, div-mul-add}
 use Rattle.std.proofs.lemmas.List.{drop_more, drop_all}
-use Rattle.salus_hash.specs.Hash.{inner}
 use Rattle.merkle_region.specs.Tree.{climb, climb_strings, parent, parent_string}
 
 -- one sibling of the rest of a path
@@ -29,18 +28,18 @@ unfolding climb
 climb-append i digest [] last = let same : i ≡ i / 1 = omega arith in ap (λ n. parent n digest last) same
 climb-append i digest (sibling ∷ front) last =
     climb-append (i / 2) (parent i digest sibling) front last
-        ∙ ap (λ n. parent n (climb (i / 2) (parent i digest sibling) front) last) (place_up i (length front))
+    ∙ ap (λ n. parent n (climb (i / 2) (parent i digest sibling) front) last) (place_up i (length front))
 
 pub climb_strings-append : (i : ℕ) (digest : List ℕ) (front : List (List ℕ)) (last : List ℕ)
     → climb_strings i digest (front ++ last ∷ [])
-        ≡ climb_strings i digest front ++ parent_string (i / 2 ^ length front) (climb i digest front) last ∷ []
+    ≡ climb_strings i digest front ++ parent_string (i / 2 ^ length front) (climb i digest front) last ∷ []
 unfolding climb climb_strings
 climb_strings-append i digest [] last = let same : i ≡ i / 1 = omega arith in ap (λ n. parent_string n digest last ∷ []) same
 climb_strings-append i digest (sibling ∷ front) last =
     ap (λ strings. parent_string i digest sibling ∷ strings)
-        (climb_strings-append (i / 2) (parent i digest sibling) front last
-            ∙ ap (λ n. climb_strings (i / 2) (parent i digest sibling) front
-                ++ parent_string n (climb (i / 2) (parent i digest sibling) front) last ∷ []) (place_up i (length front)))
+    (climb_strings-append (i / 2) (parent i digest sibling) front last
+    ∙ ap (λ n. climb_strings (i / 2) (parent i digest sibling) front
+    ++ parent_string n (climb (i / 2) (parent i digest sibling) front) last ∷ []) (place_up i (length front)))
 
 half_shifted : (i n : ℕ) → (i + 2 ^ suc n) / 2 ≡ i / 2 + 2 ^ n
 half_shifted i n = let q : 2 ^ suc n ≡ 2 ^ n * 2 = pow-suc 2 n in omega arith
@@ -63,7 +62,7 @@ unfolding climb_strings
 climb_strings-shifted i digest [] = refl
 climb_strings-shifted i digest (sibling ∷ path) =
     rw (half_shifted i (length path), parity_shifted i (length path))
-        (ap (λ strings. parent_string i digest sibling ∷ strings) (climb_strings-shifted (i / 2) (parent i digest sibling) path))
+    (ap (λ strings. parent_string i digest sibling ∷ strings) (climb_strings-shifted (i / 2) (parent i digest sibling) path))
 
 -- the place above a path of n siblings: 0 in the left half, 1 in the right one
 pub place_left : (i n : ℕ) → i < 2 ^ n → i / 2 ^ n ≡ 0

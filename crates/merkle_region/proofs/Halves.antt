@@ -1,5 +1,5 @@
 -- A list of 2 ^ h elements and its two halves.
-use Rattle.std.proofs.Common.{◌≡◌, ℕ, zero, suc, ◌+◌, ◌-◌, ◌*◌, ◌/◌, ◌^◌, ◌<◌, ◌≤◌, ◌∙◌, List, [], length, take, drop, get_or, refl, arith}
+use Rattle.std.proofs.Common.{◌≡◌, ℕ, zero, suc, ◌+◌, ◌-◌, ◌*◌, ◌/◌, ◌^◌, ◌<◌, List, [], length, take, drop, get_or, refl, arith}
 use Rattle.std.proofs.Math.Nat.{pow-suc}
 use Rattle.std.proofs.Math.Numerals.{sub-one}
 use Rattle.std.proofs.lemmas.Nat.{pow_pos}
@@ -12,10 +12,17 @@ pub half_of_power : (n h : ℕ) → n ≡ 2 ^ h → 0 < h → n / 2 ≡ 2 ^ (h -
 half_of_power n zero e p = absurd (omega arith)
 half_of_power n (suc k) e p = let q : 2 ^ suc k ≡ 2 ^ k * 2 = pow-suc 2 k in let r : n / 2 ≡ 2 ^ k = omega arith in rw sub-one r
 
+pub power_halved : (h : ℕ) → 0 < h → 2 ^ h ≡ 2 ^ (h - 1) * 2
+power_halved zero p = absurd (omega arith)
+power_halved (suc k) p = rw sub-one (pow-suc 2 k)
+
 -- each half has 2 ^ (h - 1) elements
-pub length-back_half : (n m h : ℕ) → n ≡ 2 ^ h → 0 < h → m + n / 2 ≡ n → m ≡ 2 ^ (h - 1)
-length-back_half n m zero e p s = absurd (omega arith)
-length-back_half n m (suc k) e p s = let q : 2 ^ suc k ≡ 2 ^ k * 2 = pow-suc 2 k in let r : m ≡ 2 ^ k = omega arith in rw sub-one r
+pub half_lengths : (h : ℕ) (blocks front back : List (List ℕ)) → length blocks ≡ 2 ^ h → 0 < h → length front ≡ length blocks / 2
+    → length back + length blocks / 2 ≡ length blocks → (length front ≡ 2 ^ (h - 1)) × (length back ≡ 2 ^ (h - 1))
+half_lengths h blocks front back n p f b =
+    let half = half_of_power (length blocks) h n p in
+    let whole = power_halved h p in
+    (omega arith, omega arith)
 
 -- a list of 2 ^ h elements has a first one
 pub first_read : (h : ℕ) (blocks : List (List ℕ)) (block : List ℕ) → length blocks ≡ 2 ^ h → block ≡ get_or blocks 0 block → block ≡ block_at blocks 0

@@ -1,5 +1,5 @@
 -- Membership in lists, and the premise on collisions for a part of a list.
-use Rattle.std.proofs.Common.{◌≡◌, ◌⊎◌, ℕ, List, [], ◌∷◌, ◌++◌, inl, inr}
+use Rattle.std.proofs.Common.{◌⊎◌, ℕ, List, [], ◌∷◌, ◌++◌, inl, inr}
 use Rattle.merkle_region.specs.Tree.{IsAmong, NoTwoCollide}
 
 pub among_left : {A : Type 0} (x : A) (xs ys : List A) → IsAmong x xs → IsAmong x (xs ++ ys)

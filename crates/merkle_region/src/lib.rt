@@ -9,4 +9,4 @@ pub mod path;
 pub mod tree;
 
 pub use path::{fold_path, verifies};
-pub use tree::root;
+pub use tree::{path_of, root};

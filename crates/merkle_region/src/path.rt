@@ -1,5 +1,5 @@
 ghost use Rattle.std.specs.Prelude.{◌≡◌, ◌↔◌, IsTrue};
-ghost use Rattle.merkle_region.specs.Tree.{climb, parent, verified, Verifies};
+ghost use Rattle.merkle_region.specs.Tree.{Carries, climb, parent, verified, Verifies};
 
 use salus_hash::{Digest, leaf_digest, node_digest};
 use salus_types::Path;
@@ -32,6 +32,8 @@ pub fn fold_path(i: u32, leaf: &Digest, path: &Path) -> Digest
 pub fn verifies(root: &Digest, height: u32, i: u32, block: &[u8], path: &Path) -> bool
     ensures exact { IsTrue result ↔ Verifies root.now height i block.now path.now }
     ensures test { result ≡ verified root.now height i block.now path.now }
+    // A path that verifies carries the block at its place, where no strings collide.
+    ensures carries { IsTrue result → Carries root.now height i block.now path.now }
 {
     path.len() == height as usize && fold_path(i, &leaf_digest(block), path) == *root
 }

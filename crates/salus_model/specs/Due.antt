@@ -1,6 +1,6 @@
 -- The lines that are due. They follow from what was handed to the client so far, its inbox, and from the lines
 -- before; the client's own tables are nowhere in it.
-use Rattle.std.specs.Prelude.{◌≡◌, ℕ, ◌+◌, ◌^◌, Bool, true, false, ◌==◌, ◌&&◌, nat_lt, if◌then◌else◌, List, [], ◌∷◌, ◌++◌, length, Option, None, Some}
+use Rattle.std.specs.Prelude.{ℕ, ◌+◌, Bool, true, false, ◌==◌, ◌&&◌, nat_lt, if◌then◌else◌, List, [], ◌∷◌, ◌++◌, length, Option, None, Some}
 use Rattle.salus_hash.specs.Hash.{leaf}
 use Rattle.salus_types.specs.declared.names.Sender.{Sender}
 use Rattle.salus_types.specs.declared.names.Sender.TheVariants as sender
@@ -25,7 +25,7 @@ use Rattle.salus_model.specs.declared.trace.TraceStep.{TraceStep}
 use Rattle.salus_model.specs.Answering.{answer_of}
 use Rattle.salus_model.specs.Contents.{blocks_of}
 use Rattle.salus_model.specs.Following.{message_at, is_skipped}
-use Rattle.salus_model.specs.Judge.{Judge, start_judge, judged, judged_all, array, is_among}
+use Rattle.salus_model.specs.Judge.{Judge, start_judge, judged_all, array, is_among}
 
 abbrev pub is_client : Sender → Bool
 is_client sender.Client = true
@@ -145,7 +145,7 @@ module _ (volume : Volume) (events : List Event) (sent : List Sent) where
       if is_skipped posted event
       then skip_line n event ++ due_from inbox judge posted (n + 1) rest (step ∷ steps)
       else due_lines volume sent inbox judge step
-          ++ due_from (received inbox step) (judged_all events judge (due_lines volume sent inbox judge step)) step.sent (n + 1) rest steps
+      ++ due_from (received inbox step) (judged_all events judge (due_lines volume sent inbox judge step)) step.sent (n + 1) rest steps
 
 -- all lines that are due in a run
 abbrev pub lines_due : Volume → List Event → List Sent → List TraceStep → List Line

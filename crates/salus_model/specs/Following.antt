@@ -52,8 +52,8 @@ FollowsFrom sent posted n [] steps = steps ≡ []
 FollowsFrom sent posted n (event ∷ events) [] = (is_skipped posted event ≡ true) × FollowsFrom sent posted (n + 1) events []
 FollowsFrom sent posted n (event ∷ events) (step ∷ steps) =
     MatchBool (is_skipped posted event)
-        (FollowsFrom sent posted (n + 1) events (step ∷ steps))
-        (IsStepOf sent n posted event step × FollowsFrom sent step.sent (n + 1) events steps)
+    (FollowsFrom sent posted (n + 1) events (step ∷ steps))
+    (IsStepOf sent n posted event step × FollowsFrom sent step.sent (n + 1) events steps)
 
 -- the trace follows the schedule
 abbrev pub Follows : List Event → List Sent → List TraceStep → Type 0

@@ -1,6 +1,6 @@
 -- The legal history of one array. The judge knows a list of batches and one array, and nothing of servers, trees
 -- or messages.
-use Rattle.std.specs.Prelude.{◌≡◌, ℕ, ◌+◌, ◌-◌, ◌<◌, Bool, false, true, ◌==◌, ◌||◌, nat_lt, if◌then◌else◌, List, [], ◌∷◌, ◌++◌, length, slice_get, Option, None, Some}
+use Rattle.std.specs.Prelude.{◌≡◌, ℕ, ◌+◌, ◌-◌, ◌<◌, Bool, false, ◌==◌, ◌||◌, nat_lt, if◌then◌else◌, List, [], ◌∷◌, ◌++◌, length, slice_get, Option, None, Some}
 use Rattle.salus_model.specs.declared.schedule.Volume.{Volume}
 use Rattle.salus_model.specs.declared.schedule.Event.{Event}
 use Rattle.salus_model.specs.declared.schedule.Event.TheVariants as event

@@ -11,15 +11,32 @@ pub enum RequestRefusal {
 #[derive(Debug, Drop)]
 pub enum Line {
     /// The write of that event is batch `seq`.
-    Submit { event: u64, seq: u64 },
+    Submit {
+        event: u64,
+        seq: u64,
+    },
     /// The read of that event gave the block.
-    Read { event: u64, block: u64, bytes: Bytes },
+    Read {
+        event: u64,
+        block: u64,
+        bytes: Bytes,
+    },
     /// Every replica is struck, so the read of that event ends without the block.
-    Fault { event: u64, block: u64, strikes: Strikes },
+    Fault {
+        event: u64,
+        block: u64,
+        strikes: Strikes,
+    },
     /// The request of that event is refused.
-    Refused { event: u64, cause: RequestRefusal },
+    Refused {
+        event: u64,
+        cause: RequestRefusal,
+    },
     /// That event names a message that isn't sent yet, and has no other effect.
-    Skip { event: u64, message: u64 },
+    Skip {
+        event: u64,
+        message: u64,
+    },
 }
 
 pub type Lines = Items<Line>;

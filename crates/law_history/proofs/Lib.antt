@@ -1,0 +1,7 @@
+pub mod Arrays
+pub mod Shown
+pub mod Standing
+pub mod Asking
+pub mod Sound
+pub mod Arriving
+pub mod Continued

@@ -1,0 +1,7 @@
+pub mod Tables
+pub mod Arrays
+pub mod Rows
+pub mod Requests
+pub mod Answering
+pub mod Deliveries
+pub mod Whole

@@ -1,0 +1,27 @@
+-- Lines as they stand in the output, computed by the checker.
+use Rattle.std.proofs.Common.{◌≡◌, [], ◌∷◌, ◌++◌, Some, codes, refl}
+use Rattle.std.specs.Fmt.{digits}
+use Rattle.salus_types.specs.declared.strike.Strike.TheVariants as strike
+use Rattle.salus_model.specs.declared.line.Line.TheVariants as line
+use Rattle.salus_model.specs.declared.line.RequestRefusal.TheVariants as refusal
+use Rattle.printed_lines.specs.LineText.{hex_text, block_text, strike_text, replica_text, words_text, line_text, text_of, refusal_text}
+
+pub two_lines : text_of (line.Submit 1 1 ∷ line.Read 3 0 (7 ∷ []) ∷ []) ≡ codes "submit 1 1" ++ 10 ∷ codes "read 3 0 *07" ++ 10 ∷ []
+unfolding line_text words_text block_text digits
+two_lines = refl
+
+pub mixed_block : line_text (line.Read 12 4095 (171 ∷ 0 ∷ 15 ∷ [])) ≡ codes "read 12 4095 ab000f" ++ 10 ∷ []
+unfolding line_text words_text block_text hex_text digits
+mixed_block = refl
+
+pub struck_twice : line_text (line.Fault 3 0 (Some (strike.Bad (1 ∷ 2 ∷ []) (255 ∷ [])) ∷ Some (strike.Past 9 8) ∷ [])) ≡ codes "fault 3 0 0102:ff past:9:8" ++ 10 ∷ []
+unfolding line_text words_text replica_text strike_text hex_text digits
+struck_twice = refl
+
+pub outside : text_of (line.Refused 1 (refusal.Range 1) ∷ line.Skip 2 1 ∷ []) ≡ codes "refused 1 range 1" ++ 10 ∷ codes "skip 2 1" ++ 10 ∷ []
+unfolding line_text words_text digits
+outside = refl
+
+pub wrong_line : refusal_text 65538 ≡ codes "error 65538 later" ++ 10 ∷ []
+unfolding refusal_text digits
+wrong_line = refl

@@ -1,0 +1,63 @@
+-- The text of the printed lines.
+use Rattle.std.specs.Prelude.{ℕ, ◌/◌, ◌%◌, Bool, ◌==◌, ◌&&◌, nat_lt, if◌then◌else◌, List, [], ◌∷◌, ◌++◌, length, Option, None, Some, codes, decimal, slice_index}
+use Rattle.std.specs.List.{flat_map, list_all}
+use Rattle.salus_types.specs.declared.strike.Strike.{Strike}
+use Rattle.salus_types.specs.declared.strike.Strike.TheVariants as strike
+use Rattle.salus_model.specs.declared.line.Line.{Line}
+use Rattle.salus_model.specs.declared.line.Line.TheVariants as line
+use Rattle.salus_model.specs.declared.line.RequestRefusal.{RequestRefusal}
+use Rattle.salus_model.specs.declared.line.RequestRefusal.TheVariants as refusal
+
+-- the digit of a value below 16
+abbrev pub hex_digit : ℕ → ℕ
+hex_digit value = slice_index (codes "0123456789abcdef") value
+
+-- a byte as two digits, the high four bits first
+abbrev pub pair_text : ℕ → List ℕ
+pair_text byte = hex_digit (byte / 16) ∷ hex_digit (byte % 16) ∷ []
+
+-- bytes as hex in lower case
+unfoldable pub hex_text : List ℕ → List ℕ
+hex_text bytes = flat_map pair_text bytes
+
+-- there is a byte, and all bytes are equal to the first
+abbrev pub is_uniform : List ℕ → Bool
+is_uniform bytes = nat_lt 0 (length bytes) && list_all (λ byte. byte == slice_index bytes 0) bytes
+
+-- a block of equal bytes is * and the pair of that byte, any other its hex; an empty one has no text
+unfoldable pub block_text : List ℕ → List ℕ
+block_text bytes = if is_uniform bytes then 42 ∷ pair_text (slice_index bytes 0) else hex_text bytes
+
+-- what a replica did: the two digests, or the two numbers, with : between them
+unfoldable pub strike_text : Strike → List ℕ
+strike_text (strike.Bad held got) = hex_text held ++ codes ":" ++ hex_text got
+strike_text (strike.Past at number) = codes "past:" ++ decimal at ++ codes ":" ++ decimal number
+
+-- the strike of one replica; - stands for a replica without one, which no line of a run has
+unfoldable pub replica_text : Option Strike → List ℕ
+replica_text None = codes " -"
+replica_text (Some s) = codes " " ++ strike_text s
+
+-- why a request is refused
+abbrev pub cause_text : RequestRefusal → List ℕ
+cause_text (refusal.Range number) = codes " range " ++ decimal number
+
+-- a line without its end
+unfoldable pub words_text : Line → List ℕ
+words_text (line.Submit event seq) = codes "submit " ++ decimal event ++ codes " " ++ decimal seq
+words_text (line.Read event block bytes) = codes "read " ++ decimal event ++ codes " " ++ decimal block ++ codes " " ++ block_text bytes
+words_text (line.Fault event block strikes) = codes "fault " ++ decimal event ++ codes " " ++ decimal block ++ flat_map replica_text strikes
+words_text (line.Refused event cause) = codes "refused " ++ decimal event ++ cause_text cause
+words_text (line.Skip event message) = codes "skip " ++ decimal event ++ codes " " ++ decimal message
+
+-- a line with its end, the byte 0a
+unfoldable pub line_text : Line → List ℕ
+line_text l = words_text l ++ 10 ∷ []
+
+-- lines, one after another
+abbrev pub text_of : List Line → List ℕ
+text_of lines = flat_map line_text lines
+
+-- the one line for a text that isn't a schedule, with the number of its first wrong line
+unfoldable pub refusal_text : ℕ → List ℕ
+refusal_text number = codes "error " ++ decimal number ++ codes " later" ++ 10 ∷ []

@@ -1,0 +1,5 @@
+use Rattle.salus_codec.proofs.OneSpelling.{again_4}
+use Rattle.salus_codec.proofs.reader.Fields.u32.Goals as goal
+
+pub returns-clause-again : goal.returns-clause-again
+returns-clause-again c = λ n after. again_4 c.in_ok-head.head.now c.bytes.new.self after c.args.self.now c.number_4.result n c.in_ok-head.ensures.len c.number_4.ensures.number c.in_ok-head.ensures.ok

@@ -1,0 +1,170 @@
+ghost use Rattle.std.specs.Prelude.{◌≡◌, ◌↔◌, ◌⊎◌, ◌≤◌, ◌∷◌, [], IsTrue, IfSome, map, string_bytes, Option, Some, None};
+ghost use Rattle.salus_io.specs.Told.{Appends, AppendsPrefix, ConsumesMore, IsAtEnd};
+ghost use Rattle.salus_io.specs.Faults.{Rose};
+ghost use Rattle.printed_lines.specs.LineText.{text_of, refusal_text};
+ghost use Rattle.merkle_region.specs.Tree.{IsAmong};
+ghost use Rattle.small_schedule.specs.Grammar.{IsSchedule, IsFirstWrong};
+ghost use Rattle.salus_commands.specs.Words.{IsReplay};
+ghost use Rattle.salus_commands.specs.Replaying.{empty_report, Replays, RanSchedule};
+ghost use Rattle.salus_commands.specs.Statuses.{RanText, RefusedText, PartOfText, HasSchedule, WroteRefusal, WrotePart};
+
+use crate::replay::replay;
+use crate::report::Report;
+use crate::words::is_replay;
+use printed_lines::{text_of_lines, write_refusal};
+use salus_io::{ReadError, Sink, SinkFault, Source, read_whole, write_all};
+use salus_model::Schedule;
+use small_schedule::{ParseError, parse};
+use std::alloc::Global;
+
+// The statuses: the command is done; the words are no command; the text is no schedule; the source failed; the sink
+// failed; there was no memory.
+const DONE: u8 = 0;
+
+const USAGE: u8 = 2;
+
+const REFUSED: u8 = 3;
+
+const SOURCE_FAILED: u8 = 4;
+
+const SINK_FAILED: u8 = 5;
+
+const NO_MEMORY: u8 = 6;
+
+// How many bytes the text of a schedule may have.
+const MOST_BYTES: usize = 67_108_864;
+
+/// Writes a text, and gives the status `done` where all of it was taken.
+fn print<K: Sink>(sink: &mut K, text: &[u8], done: u8) -> u8
+    ensures done { result ≡ done → (done ≡ 5 → ⊥) → (done ≡ 6 → ⊥) → Appends (K.held sink.old) (K.held sink.new) text.now }
+    ensures failed { result ≡ 5 → (done ≡ 5 → ⊥) → Rose (K.faults sink.old) (K.faults sink.new) }
+    ensures part { AppendsPrefix (K.held sink.old) (K.held sink.new) text.now }
+    ensures others { IsAmong result (done ∷ 5 ∷ 6 ∷ []) }
+{
+    match write_all(sink, text) {
+        Ok(()) => done,
+        Err(SinkFault::Failed) => SINK_FAILED,
+        Err(SinkFault::NoMemory) => NO_MEMORY,
+    }
+}
+
+/// Answers a text that is no schedule, with its first wrong line.
+fn refuse<K: Sink>(alloc: Global, line: u64, sink: &mut K) -> u8
+    ensures written { result ≡ 3 → Appends (K.held sink.old) (K.held sink.new) (refusal_text line) }
+    ensures failed { result ≡ 5 → Rose (K.faults sink.old) (K.faults sink.new) }
+    ensures part { result ≡ 5 → AppendsPrefix (K.held sink.old) (K.held sink.new) (refusal_text line) }
+    ensures others { IsAmong result (3 ∷ 5 ∷ 6 ∷ []) }
+{
+    let mut text = Vec::new(alloc);
+    match write_refusal(line, &mut text) {
+        Ok(()) => print(sink, text.as_slice(), REFUSED),
+        Err(_) => NO_MEMORY,
+    }
+}
+
+/// Runs a schedule, and writes the text of its lines.
+fn run<K: Sink>(alloc: Global, schedule: &Schedule, sink: &mut K, report: &mut Report) -> u8
+    requires { schedule.now.volume.height ≤ 10 }
+    ensures replays { (result ≡ 0) ⊎ (result ≡ 5) → Replays schedule.now report.new }
+    ensures written { result ≡ 0 → Appends (K.held sink.old) (K.held sink.new) (text_of report.new.lines) }
+    ensures failed { result ≡ 5 → Rose (K.faults sink.old) (K.faults sink.new) }
+    ensures part { result ≡ 5 → AppendsPrefix (K.held sink.old) (K.held sink.new) (text_of report.new.lines) }
+    ensures others { IsAmong result (0 ∷ 5 ∷ 6 ∷ []) }
+{
+    match replay(alloc, schedule, report) {
+        Ok(()) => {}
+        Err(_) => return NO_MEMORY,
+    }
+    match text_of_lines(alloc, &report.lines) {
+        Ok(text) => print(sink, text.as_slice(), DONE),
+        Err(_) => NO_MEMORY,
+    }
+}
+
+/// Answers the bytes of a source: runs the schedule, or refuses the text.
+fn answer<K: Sink>(alloc: Global, text: &[u8], sink: &mut K, report: &mut Report) -> u8
+    requires { report.old ≡ empty_report }
+    ensures ran { result ≡ 0 → RanText text.now report.new }
+    ensures written { result ≡ 0 → Appends (K.held sink.old) (K.held sink.new) (text_of report.new.lines) }
+    ensures refused { result ≡ 3 → RefusedText text.now (K.held sink.old) (K.held sink.new) }
+    ensures failed { result ≡ 5 → Rose (K.faults sink.old) (K.faults sink.new) }
+    ensures part { result ≡ 5 → PartOfText text.now report.new (K.held sink.old) (K.held sink.new) }
+    ensures kept { result ≡ 3 → report.new ≡ report.old }
+    ensures others { IsAmong result (0 ∷ 3 ∷ 5 ∷ 6 ∷ []) }
+{
+    match parse(alloc, text) {
+        Ok(schedule) => run(alloc, &schedule, sink, report),
+        Err(ParseError::Refused { line }) => refuse(alloc, line, sink),
+        Err(ParseError::NoMemory) => NO_MEMORY,
+    }
+}
+
+/// Replays the schedule that the source has.
+fn replay_source<S: Source, K: Sink>(
+    alloc: Global,
+    source: &mut S,
+    sink: &mut K,
+    report: &mut Report,
+) -> u8
+    requires { report.old ≡ empty_report }
+    ensures ran { result ≡ 0 → RanSchedule (S.left source.old) report.new }
+    ensures whole { result ≡ 0 → IsAtEnd (S.left source.new) }
+    ensures written { result ≡ 0 → Appends (K.held sink.old) (K.held sink.new) (text_of report.new.lines) }
+    ensures refused { result ≡ 3 → WroteRefusal (S.left source.old) (S.left source.new) (K.held sink.old) (K.held sink.new) }
+    ensures refused_report { result ≡ 3 → report.new ≡ report.old }
+    ensures read_fault { result ≡ 4 → Rose (S.faults source.old) (S.faults source.new) × (sink.new ≡ sink.old) × (report.new ≡ report.old) }
+    ensures write_fault { result ≡ 5 → Rose (K.faults sink.old) (K.faults sink.new) }
+    ensures part { result ≡ 5 → WrotePart (S.left source.old) (S.left source.new) report.new (K.held sink.old) (K.held sink.new) }
+    ensures others { IsAmong result (0 ∷ 3 ∷ 4 ∷ 5 ∷ 6 ∷ []) }
+{
+    match read_whole(alloc, source, MOST_BYTES) {
+        Ok(text) => answer(alloc, text.as_slice(), sink, report),
+        Err(ReadError::TooLong) => refuse(alloc, 0, sink),
+        Err(ReadError::Failed) => SOURCE_FAILED,
+        Err(ReadError::NoMemory) => NO_MEMORY,
+    }
+}
+
+/// Does what the words say, and gives the status that the program ends with. The report is empty before.
+///
+/// 0: the run is done, and its lines are written. 2: the words are no command. 3: the text is no schedule, and the
+/// line `error L later` is written. 4: the source failed. 5: the sink failed. 6: there was no memory; nothing is said
+/// of sink and report then.
+pub fn salus<S: Source, K: Sink>(
+    alloc: Global,
+    words: &Vec<String>,
+    source: &mut S,
+    sink: &mut K,
+    report: &mut Report,
+) -> u8
+    requires { report.old ≡ empty_report }
+
+    // 2 exactly where the words aren't those of a replay, and nothing is touched then.
+    ensures words { (result ≡ 2) ↔ (IsReplay (map (λ w. string_bytes w) words.now.items) → ⊥) }
+    ensures untouched { result ≡ 2 → (source.new ≡ source.old) × (sink.new ≡ sink.old) × (report.new ≡ report.old) }
+
+    // 0: the source was read to its end and had a schedule, the report is of a run of it, and its lines were written.
+    ensures ran { result ≡ 0 → RanSchedule (S.left source.old) report.new }
+    ensures whole { result ≡ 0 → IsAtEnd (S.left source.new) }
+    ensures written { result ≡ 0 → Appends (K.held sink.old) (K.held sink.new) (text_of report.new.lines) }
+
+    // 3: the text is no schedule, and the refusal was written.
+    ensures refused { result ≡ 3 → WroteRefusal (S.left source.old) (S.left source.new) (K.held sink.old) (K.held sink.new) }
+    ensures refused_report { result ≡ 3 → report.new ≡ report.old }
+
+    // 4 and 5 only where a count rose; the sink holds a front part of the text then.
+    ensures read_fault { result ≡ 4 → Rose (S.faults source.old) (S.faults source.new) × (sink.new ≡ sink.old) × (report.new ≡ report.old) }
+    ensures write_fault { result ≡ 5 → Rose (K.faults sink.old) (K.faults sink.new) }
+    ensures part { result ≡ 5 → WrotePart (S.left source.old) (S.left source.new) report.new (K.held sink.old) (K.held sink.new) }
+
+    // A replay of a schedule with no fault counted is done, unless there was no memory.
+    ensures complete { IsReplay (map (λ w. string_bytes w) words.now.items) → HasSchedule (S.left source.old)
+        → (Rose (S.faults source.old) (S.faults source.new) → ⊥) → (Rose (K.faults sink.old) (K.faults sink.new) → ⊥) → (result ≡ 0) ⊎ (result ≡ 6) }
+    ensures others { IsAmong result (0 ∷ 2 ∷ 3 ∷ 4 ∷ 5 ∷ 6 ∷ []) }
+{
+    if is_replay(words) {
+        replay_source(alloc, source, sink, report)
+    } else {
+        USAGE
+    }
+}

@@ -1,0 +1,10 @@
+//! The tests of the whole, each a table of worked examples: what a proof can't see, as that a call finds the memory
+//! that there is, and that the clauses say what was meant.
+#![tactic(auto)]
+
+#[cfg(test)]
+mod calls;
+#[cfg(test)]
+mod codec;
+#[cfg(test)]
+mod replay;

@@ -1,0 +1,20 @@
+ghost use Rattle.std.specs.Prelude.{◌≡◌, ◌==◌, position};
+ghost use Rattle.small_schedule.specs.Reading.{front, past};
+
+// The place of the first `separator`.
+fn place_of(bytes: &[u8], separator: u8) -> Option<usize>
+    ensures { result ≡ position (λ b. b == separator) bytes.now }
+{
+    bytes.iter().position(|b| *b == separator)
+}
+
+/// The bytes before the first `separator` and those after it. Where there is none, these are all bytes and none.
+pub fn split_first(bytes: &[u8], separator: u8) -> (&[u8], &[u8])
+    ensures front { result.0.now ≡ front separator bytes.now }
+    ensures past { result.1.now ≡ past separator bytes.now }
+{
+    match place_of(bytes, separator) {
+        Some(end) => (&bytes[..end], &bytes[end + 1..]),
+        None => (bytes, &bytes[bytes.len()..]),
+    }
+}

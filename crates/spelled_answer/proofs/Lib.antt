@@ -1,0 +1,4 @@
+pub mod Bridges
+pub mod Fronts
+pub mod Laws
+pub mod Spelled
