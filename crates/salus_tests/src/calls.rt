@@ -30,8 +30,14 @@ fn paths_lead_to_the_root(rt: HostRuntime) {
     for i in 0u32..4 {
         match path_of(rt.alloc(), 2, blocks.as_slice(), i) {
             Ok(path) => {
-                assert!(rt; verifies(&top, 2, i, blocks[i as usize].as_slice(), &path), "the path of {i}");
-                assert!(rt; !verifies(&top, 2, i ^ 1, blocks[i as usize].as_slice(), &path), "the path of {i} elsewhere");
+                assert!(rt;
+                    verifies(&top, 2, i, blocks[i as usize].as_slice(), &path),
+                    "the path of {i}"
+                );
+                assert!(rt;
+                    !verifies(&top, 2, i ^ 1, blocks[i as usize].as_slice(), &path),
+                    "the path of {i} elsewhere"
+                );
             }
             Err(_) => assert!(rt; false, "no memory for the path of {i}"),
         }
@@ -39,9 +45,23 @@ fn paths_lead_to_the_root(rt: HostRuntime) {
 }
 
 /// Whether the bytes are read as an answer of that read, with a block of so many bytes and a path of so many digests.
-fn is_read(alloc: Global, bytes: &[u8], read: u64, size: usize, levels: usize) -> Result<bool, NoMemory> {
+fn is_read(
+    alloc: Global,
+    bytes: &[u8],
+    read: u64,
+    size: usize,
+    levels: usize,
+) -> Result<bool, NoMemory> {
     Ok(match read_answer(alloc, bytes)? {
-        Some(Answer { read: number, block: _, at: _, bytes, path }) => number == read && bytes.len() == size && path.len() == levels,
+        Some(
+            Answer {
+                read: number,
+                block: _,
+                at: _,
+                bytes,
+                path,
+            },
+        ) => number == read && bytes.len() == size && path.len() == levels,
         None => false,
     })
 }
@@ -49,9 +69,18 @@ fn is_read(alloc: Global, bytes: &[u8], read: u64, size: usize, levels: usize) -
 #[test]
 fn answers_are_read(rt: HostRuntime) {
     let good = *b"\x05\0\0\0\0\0\0\0\x01\0\0\0\0\0\0\0\x03\0\0\0\0\0\0\0\0\0\0\0\x01\0\x01\x06\0";
-    assert!(rt; matches!(is_read(rt.alloc(), good.as_slice(), 3, 1, 0), Ok(true)), "an answer");
-    assert!(rt; matches!(is_read(rt.alloc(), &good[..32], 3, 1, 0), Ok(false)), "a byte less");
+    assert!(rt;
+        matches!(is_read(rt.alloc(), good.as_slice(), 3, 1, 0), Ok(true)),
+        "an answer"
+    );
+    assert!(rt;
+        matches!(is_read(rt.alloc(), &good[..32], 3, 1, 0), Ok(false)),
+        "a byte less"
+    );
     let mut other = good;
     other[8] = 2;
-    assert!(rt; matches!(is_read(rt.alloc(), other.as_slice(), 3, 1, 0), Ok(false)), "another session");
+    assert!(rt;
+        matches!(is_read(rt.alloc(), other.as_slice(), 3, 1, 0), Ok(false)),
+        "another session"
+    );
 }
