@@ -7,4 +7,6 @@ mod calls;
 #[cfg(test)]
 mod codec;
 #[cfg(test)]
+mod disks;
+#[cfg(test)]
 mod replay;

@@ -1,5 +1,5 @@
 -- What an answer that gives the meaning of a text says by the rules.
-use Rattle.std.proofs.Common.{ℕ, List, [], ◌∷◌, subst}
+use Rattle.std.proofs.Common.{◌≡◌, ℕ, List, [], ◌∷◌, subst}
 use Rattle.std.specs.Prelude.{Result, Ok, Err, IfOk, IfErr}
 use Rattle.std.specs.List.{AllByRecursion, AllZip}
 use Rattle.salus_model.specs.declared.schedule.Volume.{Volume}
@@ -13,7 +13,7 @@ use Rattle.small_schedule.specs.Limits.{WritesWhole, IsWithinLimits}
 use Rattle.small_schedule.specs.Outcome.{Gives, Refuses}
 use Rattle.small_schedule.specs.Reading.{schedule_of}
 use Rattle.small_schedule.proofs.Hexed.{block_length}
-use Rattle.small_schedule.proofs.Whole.{schedule-sound, schedule-only, wrong-sound, wrong-only}
+use Rattle.small_schedule.proofs.Whole.{schedule-sound, schedule-only, wrong-sound, wrong-only, wrong-none, one_schedule}
 
 event_whole : (volume : Volume) (line : List ℕ) (e : Event) → IsEventLine volume line e → WritesWhole volume.block e
 event_whole volume line (event.Write n bytes) w = block_length volume.block w.word bytes w.is_block
@@ -40,7 +40,8 @@ told-only text r h s w = subst (Gives r) (schedule-only text s w) h
 
 pub told-refused : (text : List ℕ) (r : Result Schedule ParseError) → Gives r (schedule_of text) → IfErr r (Refuses text)
 told-refused text (Ok s) h = tt
-told-refused text (Err (error.Refused line)) h = wrong-sound text line h
+told-refused text (Err (error.Refused line)) h =
+    (wrong-sound text line h, λ s w. wrong-none text line s (wrong-sound text line h) w)
 told-refused text (Err error.NoMemory) h = tt
 
 pub told-first : (text : List ℕ) (r : Result Schedule ParseError) → Gives r (schedule_of text) → (line : ℕ) → IsFirstWrong text line → Gives {X = Schedule} r (Err line)
@@ -49,3 +50,7 @@ told-first text r h line w = subst (Gives r) (wrong-only text line w) h
 pub told-limits : (text : List ℕ) (r : Result Schedule ParseError) → Gives r (schedule_of text) → IfOk r IsWithinLimits
 told-limits text (Ok s) h = within_limits text s (schedule-sound text s h)
 told-limits text (Err e) h = tt
+
+pub told-one : (text : List ℕ) (r : Result Schedule ParseError) → Gives r (schedule_of text) → IfOk r (λ s. (other : Schedule) → IsSchedule text other → other ≡ s)
+told-one text (Ok s) h = λ other w. one_schedule text s other (schedule-sound text s h) w
+told-one text (Err e) h = tt

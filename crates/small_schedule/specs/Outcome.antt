@@ -2,7 +2,8 @@
 use Rattle.std.specs.Prelude.{◌≡◌, ℕ, List, Result, Ok, Err}
 use Rattle.small_schedule.specs.declared.error.ParseError.{ParseError}
 use Rattle.small_schedule.specs.declared.error.ParseError.TheVariants as error
-use Rattle.small_schedule.specs.Grammar.{IsFirstWrong}
+use Rattle.salus_model.specs.declared.schedule.Schedule.{Schedule}
+use Rattle.small_schedule.specs.Grammar.{IsFirstWrong, IsSchedule}
 
 -- a refusal names the line; want of memory says nothing
 abbrev pub Fails : {X : Type 0} → ParseError → Result X ℕ → Type 0
@@ -14,7 +15,7 @@ abbrev pub Gives : {X : Type 0} → Result X ParseError → Result X ℕ → Typ
 Gives (Ok x) meaning = meaning ≡ Ok x
 Gives (Err e) meaning = Fails e meaning
 
--- a refusal names the first wrong line of the text
+-- a refusal names the first wrong line of the text, which is then the text of no schedule
 abbrev pub Refuses : List ℕ → ParseError → Type 0
-Refuses text (error.Refused line) = IsFirstWrong text line
+Refuses text (error.Refused line) = IsFirstWrong text line × ((schedule : Schedule) → ¬ IsSchedule text schedule)
 Refuses text error.NoMemory = Unit {0}

@@ -53,6 +53,7 @@ starts_number [] = false
 starts_number (d ∷ []) = true
 starts_number (d ∷ e ∷ digits) = not (d == 48)
 
+-- the number of a decimal word
 unfoldable pub number_of : List ℕ → Option ℕ
 number_of word = if starts_number word then with_digits 0 word else None
 
@@ -72,6 +73,7 @@ joined_digits None low = None
 joined_digits (Some high) None = None
 joined_digits (Some high) (Some low) = Some (high * 16 + low)
 
+-- the byte of two hexadecimal digits
 unfoldable pub pair_of : ℕ → ℕ → Option ℕ
 pair_of high low = joined_digits (hex_digit high) (hex_digit low)
 
@@ -80,6 +82,7 @@ abbrev pub prefixed : {X : Type 0} → List X → Option (List X) → Option (Li
 prefixed bytes None = None
 prefixed bytes (Some more) = Some (bytes ++ more)
 
+-- one more byte in front, if both are there
 abbrev pub onto : Option ℕ → Option (List ℕ) → Option (List ℕ)
 onto None bytes = None
 onto (Some b) bytes = prefixed (b ∷ []) bytes
@@ -90,6 +93,7 @@ pairs_of [] = Some []
 pairs_of (high ∷ []) = None
 pairs_of (high ∷ low ∷ more) = onto (pair_of high low) (pairs_of more)
 
+-- the bytes of one or more pairs
 unfoldable pub hex_of : List ℕ → Option (List ℕ)
 hex_of word = if length word == 0 then None else pairs_of word
 
@@ -105,6 +109,7 @@ abbrev pub filled : ℕ → Option ℕ → Option (List ℕ)
 filled size None = None
 filled size (Some b) = Some (replicate size b)
 
+-- the bytes of a word that is as long as a block
 abbrev pub sized : ℕ → List ℕ → Option (List ℕ)
 sized size word = if length word == 2 * size then hex_of word else None
 
@@ -118,19 +123,23 @@ lie_bytes_of word = if bytes_eq word (codes "-") then Some [] else hex_of word
 
 -- ---- an event
 
+-- a write of these bytes to that block
 abbrev pub write_event : Option ℕ → Option (List ℕ) → Option Event
 write_event None bytes = None
 write_event (Some block) None = None
 write_event (Some block) (Some bytes) = Some (event.Write block bytes)
 
+-- a read of that block
 abbrev pub read_event : Option ℕ → Option Event
 read_event None = None
 read_event (Some block) = Some (event.Read block)
 
+-- a delivery of that message
 abbrev pub deliver_event : Option ℕ → Option Event
 deliver_event None = None
 deliver_event (Some message) = Some (event.Deliver message)
 
+-- a lie of these bytes
 abbrev pub lie_event : Option (List ℕ) → Option Event
 lie_event None = None
 lie_event (Some bytes) = Some (event.Lie bytes)
@@ -164,6 +173,7 @@ is_within height block = nat_le height 10 && (nat_le 1 block && (nat_le block 40
 abbrev pub key_of : List ℕ → Option (List ℕ)
 key_of word = if nat_le (length word) 128 then hex_of word else None
 
+-- the volume with that key
 abbrev pub keyed_volume : ℕ → ℕ → Option (List ℕ) → Option Volume
 keyed_volume height block None = None
 keyed_volume height block (Some key) = Some (record { height = height; block = block; key = key })
@@ -179,6 +189,7 @@ sized_volume (Some height) (Some block) words =
 unfoldable pub volume_after : List ℕ → Option Volume
 volume_after words = sized_volume (number_of (front 32 words)) (number_of (front 32 (past 32 words))) (past 32 (past 32 words))
 
+-- the volume of a volume line
 unfoldable pub volume_of : List ℕ → Option Volume
 volume_of line = if begins (codes "volume 0 ") line then volume_after (drop 9 line) else None
 
@@ -189,6 +200,7 @@ abbrev pub after_events : List Event → Result (List Event) ℕ → Result (Lis
 after_events events (Err line) = Err line
 after_events events (Ok more) = Ok (events ++ more)
 
+-- the event of a line, and those of the lines after it
 abbrev pub after_event : ℕ → Option Event → Result (List Event) ℕ → Result (List Event) ℕ
 after_event line None rest = Err line
 after_event line (Some event) rest = after_events (event ∷ []) rest
@@ -199,10 +211,12 @@ events_from size number [] = Ok []
 events_from size number (line ∷ lines) =
     if nat_lt 65537 number then Err number else after_event number (event_of size line) (events_from size (number + 1) lines)
 
+-- the volume with these events
 abbrev pub with_events : Volume → Result (List Event) ℕ → Result Schedule ℕ
 with_events volume (Err line) = Err line
 with_events volume (Ok events) = Ok (record { volume = volume; events = events })
 
+-- the volume of line 1, and the events of the lines after it
 abbrev pub after_volume : Option Volume → List (List ℕ) → Result Schedule ℕ
 after_volume None lines = Err 1
 after_volume (Some volume) lines = with_events volume (events_from volume.block 2 lines)

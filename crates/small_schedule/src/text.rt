@@ -1,4 +1,4 @@
-ghost use Rattle.std.specs.Prelude.{ℕ, IfErr, IfOk};
+ghost use Rattle.std.specs.Prelude.{◌≡◌, ℕ, IfErr, IfOk};
 ghost use Rattle.salus_model.specs.declared.schedule.Schedule.{Schedule};
 ghost use Rattle.small_schedule.specs.Grammar.{IsFirstWrong, IsSchedule};
 ghost use Rattle.small_schedule.specs.Limits.{IsWithinLimits};
@@ -62,9 +62,11 @@ fn schedule_of(alloc: Global, text: &[u8]) -> Result<Schedule, ParseError>
 pub fn parse(alloc: Global, text: &[u8]) -> Result<Schedule, ParseError>
     // What is given is what the text means.
     ensures found { IfOk result (IsSchedule text.now) }
-    // What a text means is given, and nothing else, unless memory runs out.
+    // No text has two meanings.
+    ensures one { IfOk result (λ schedule. (other : Schedule) → IsSchedule text.now other → other ≡ schedule) }
+    // What a text means is given, unless memory runs out.
     ensures only { (schedule : Schedule) → IsSchedule text.now schedule → Gives result (Ok schedule) }
-    // The line that is named is the first wrong one.
+    // The line that is named is the first wrong one, and the text means nothing.
     ensures refused { IfErr result (Refuses text.now) }
     // A text with a first wrong line is refused with that line, unless memory runs out.
     ensures first { (line : ℕ) → IsFirstWrong text.now line → Gives {X = Schedule} result (Err line) }

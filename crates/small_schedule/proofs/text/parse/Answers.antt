@@ -1,4 +1,4 @@
-use Rattle.small_schedule.proofs.Told.{told-found, told-only, told-refused, told-first, told-limits}
+use Rattle.small_schedule.proofs.Told.{told-found, told-only, told-refused, told-first, told-limits, told-one}
 use Rattle.small_schedule.proofs.text.parse.Goals as goal
 
 pub returns-clause-found : goal.returns-clause-found
@@ -15,3 +15,6 @@ returns-clause-first c = told-first _ _ c.schedule_of.ensures
 
 pub returns-clause-limits : goal.returns-clause-limits
 returns-clause-limits c = told-limits _ _ c.schedule_of.ensures
+
+pub returns-clause-one : goal.returns-clause-one
+returns-clause-one c = told-one _ _ c.schedule_of.ensures
