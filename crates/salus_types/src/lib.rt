@@ -22,6 +22,7 @@ pub use records::{
     Records, Regions, Trim, Write, Writes,
 };
 pub use same::{
-    same_base, same_batch, same_blocks, same_bytes, same_header, same_record, same_writes,
+    same_base, same_batch, same_blocks, same_bytes, same_header, same_record, same_strikes,
+    same_writes,
 };
 pub use strike::{Strike, Strikes};

@@ -3,6 +3,7 @@ ghost use Rattle.std.specs.Prelude.{◌≡◌, ◌↔◌, IsTrue};
 use crate::items::{Blocks, Bytes, Items, TryClone};
 use crate::memory::NoMemory;
 use crate::names::{NodeName, Sender};
+use crate::strike::Strikes;
 use salus_hash::Digest;
 use std::alloc::Global;
 
@@ -21,6 +22,18 @@ impl TryClone for Numbers {
 
 impl TryClone for Regions {
     fn try_clone(&self, alloc: Global) -> Result<Regions, NoMemory> {
+        Items::from_slice(alloc, self.as_slice())
+    }
+}
+
+impl TryClone for Nodes {
+    fn try_clone(&self, alloc: Global) -> Result<Nodes, NoMemory> {
+        Items::from_slice(alloc, self.as_slice())
+    }
+}
+
+impl TryClone for Strikes {
+    fn try_clone(&self, alloc: Global) -> Result<Strikes, NoMemory> {
         Items::from_slice(alloc, self.as_slice())
     }
 }

@@ -1,8 +1,8 @@
 ghost use Rattle.std.specs.Prelude.{◌≡◌, ◌↔◌, IsTrue};
 
 use crate::items::{Blocks, Bytes};
-use crate::records::{Base, Batch, Header, PlaceWrite, Record, Write, Writes};
-use salus_hash::Digest;
+use crate::records::{Base, Batch, Header, Record, Write, Writes};
+use crate::strike::Strikes;
 
 /// True exactly where the bytes are the same.
 pub fn same_bytes(left: &Bytes, right: &Bytes) -> bool
@@ -19,6 +19,13 @@ pub fn same_blocks(left: &Blocks, right: &Blocks) -> bool
 }
 
 fn same_write(left: &Write, right: &Write) -> bool
+    ensures { IsTrue result ↔ (left.now ≡ right.now) }
+{
+    left == right
+}
+
+/// True exactly where the strikes are the same, replica by replica.
+pub fn same_strikes(left: &Strikes, right: &Strikes) -> bool
     ensures { IsTrue result ↔ (left.now ≡ right.now) }
 {
     left == right
