@@ -4,7 +4,8 @@ use Rattle.std.specs.Fmt.{digits}
 use Rattle.salus_types.specs.declared.strike.Strike.TheVariants as strike
 use Rattle.salus_model.specs.declared.line.Line.TheVariants as line
 use Rattle.salus_model.specs.declared.line.RequestRefusal.TheVariants as refusal
-use Rattle.printed_lines.specs.LineText.{hex_text, block_text, strike_text, replica_text, words_text, line_text, text_of, refusal_text}
+use Rattle.text_words.specs.Writing.{hex_text, block_text}
+use Rattle.printed_lines.specs.LineText.{strike_text, replica_text, words_text, line_text, text_of, refusal_text}
 
 pub two_lines : text_of (line.Submit 1 1 ∷ line.Read 3 0 (7 ∷ []) ∷ []) ≡ codes "submit 1 1" ++ 10 ∷ codes "read 3 0 *07" ++ 10 ∷ []
 unfolding line_text words_text block_text digits

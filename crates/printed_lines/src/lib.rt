@@ -5,9 +5,7 @@
 //! that was being written then is of no use.
 #![tactic(auto)]
 
-mod hex;
 mod lines;
-mod numbers;
 mod strikes;
 
 pub use lines::{text_of_lines, write_line, write_lines, write_refusal};

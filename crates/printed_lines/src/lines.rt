@@ -1,12 +1,11 @@
 ghost use Rattle.std.specs.Prelude.{◌≡◌, ◌++◌, OnOk, IfOk};
 ghost use Rattle.printed_lines.specs.LineText.{cause_text, words_text, line_text, text_of, refusal_text};
 
-use crate::hex::put_block;
-use crate::numbers::{put, put_number};
 use crate::strikes::put_strikes;
 use salus_model::{Line, Lines, RequestRefusal};
 use salus_types::NoMemory;
 use std::alloc::Global;
+use text_words::{put, put_block, put_number};
 
 fn put_cause(out: &mut Vec<u8>, cause: &RequestRefusal) -> Result<(), NoMemory>
     ensures { OnOk result (out.new.items ≡ out.old.items ++ cause_text cause.now) }

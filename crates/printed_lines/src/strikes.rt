@@ -2,9 +2,8 @@ ghost use Rattle.std.specs.Prelude.{◌≡◌, ◌++◌, OnOk};
 ghost use Rattle.std.specs.List.{flat_map};
 ghost use Rattle.printed_lines.specs.LineText.{strike_text, replica_text};
 
-use crate::hex::put_hex;
-use crate::numbers::{put, put_number};
 use salus_types::{NoMemory, Strike};
+use text_words::{put, put_hex, put_number};
 
 #[tactic(auto, unfolding(crate::specs::LineText::strike_text))]
 fn put_strike(out: &mut Vec<u8>, strike: &Strike) -> Result<(), NoMemory>

@@ -5,12 +5,14 @@ use Rattle.std.proofs.lemmas.Option.{same_Some, none-some}
 use Rattle.salus_model.specs.declared.schedule.Volume.{Volume}
 use Rattle.salus_model.specs.declared.schedule.Event.{Event}
 use Rattle.salus_model.specs.declared.schedule.Event.TheVariants as event
-use Rattle.small_schedule.specs.Reading.{front, past, begins, number_of, block_of, lie_bytes_of, write_event, read_event, deliver_event, lie_event, lie_of, handing_of, write_of, event_of}
-use Rattle.small_schedule.specs.Grammar.{Lacks, IsNumber, IsBlock, IsLieBytes, IsEventLine}
-use Rattle.small_schedule.proofs.Settled.{Settles, chosen}
-use Rattle.small_schedule.proofs.Hexed.{begins_is, block-settles, block_lacks, block_there, lie_bytes-settles, lie_lacks}
-use Rattle.small_schedule.proofs.Numerals.{number-settles, number_lacks}
-use Rattle.small_schedule.proofs.Spaced.{all_lack, split_back, front_lacks, front_at, past_at}
+use Rattle.small_schedule.specs.Reading.{write_event, read_event, deliver_event, lie_event, lie_of, handing_of, write_of, event_of}
+use Rattle.text_words.specs.Reading.{front, past, begins, number_of, block_of, lie_bytes_of}
+use Rattle.small_schedule.specs.Grammar.{IsEventLine}
+use Rattle.text_words.specs.Grammar.{Lacks, IsNumber, IsBlock, IsLieBytes}
+use Rattle.text_words.proofs.Settled.{Settles, chosen}
+use Rattle.text_words.proofs.Hexed.{begins_is, block-settles, block_lacks, block_there, lie_bytes-settles, lie_lacks}
+use Rattle.text_words.proofs.Numerals.{number-settles, number_lacks}
+use Rattle.text_words.proofs.Spaced.{all_lack, split_back, front_lacks, front_at, past_at}
 
 -- ---- what is read is spelled so
 

@@ -1,11 +1,6 @@
 pub mod Stepping
-pub mod Settled
-pub mod Hexed
-pub mod Numerals
-pub mod Spaced
 pub mod Evented
 pub mod Regional
-pub mod Rows
 pub mod Runs
 pub mod Whole
 pub mod Told

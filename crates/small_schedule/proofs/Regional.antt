@@ -4,12 +4,14 @@ use Rattle.std.specs.Prelude.{Option, None, Some, codes, ◌&&◌}
 use Rattle.std.proofs.lemmas.Bool.{and_parts, and_from, leb-true, le-leb}
 use Rattle.std.proofs.lemmas.Option.{same_Some, none-some}
 use Rattle.salus_model.specs.declared.schedule.Volume.{Volume}
-use Rattle.small_schedule.specs.Reading.{front, past, begins, number_of, key_of, is_within, keyed_volume, sized_volume, volume_after, volume_of}
-use Rattle.small_schedule.specs.Grammar.{Lacks, IsNumber, IsHex, IsVolume, IsVolumeLine}
-use Rattle.small_schedule.proofs.Settled.{Settles, chosen, pick_true}
-use Rattle.small_schedule.proofs.Hexed.{begins_is, hex_lacks, key-sound, key-only}
-use Rattle.small_schedule.proofs.Numerals.{number-settles}
-use Rattle.small_schedule.proofs.Spaced.{all_lack, split_back, front_lacks, front_at, past_at, append_there}
+use Rattle.small_schedule.specs.Reading.{is_within, keyed_volume, sized_volume, volume_after, volume_of}
+use Rattle.text_words.specs.Reading.{front, past, begins, number_of, key_of}
+use Rattle.small_schedule.specs.Grammar.{IsVolume, IsVolumeLine}
+use Rattle.text_words.specs.Grammar.{Lacks, IsNumber, IsHex}
+use Rattle.text_words.proofs.Settled.{Settles, chosen, pick_true}
+use Rattle.text_words.proofs.Hexed.{begins_is, hex_lacks, key-sound, key-only}
+use Rattle.text_words.proofs.Numerals.{number-settles}
+use Rattle.text_words.proofs.Spaced.{all_lack, split_back, front_lacks, front_at, past_at, append_there}
 
 -- ---- what is read is spelled so
 

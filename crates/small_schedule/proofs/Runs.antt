@@ -8,7 +8,7 @@ use Rattle.salus_model.specs.declared.schedule.Volume.{Volume}
 use Rattle.salus_model.specs.declared.schedule.Event.{Event}
 use Rattle.small_schedule.specs.Reading.{event_of, after_event, after_events, events_from}
 use Rattle.small_schedule.specs.Grammar.{IsEventLine}
-use Rattle.small_schedule.proofs.Settled.{chosen, pick_false}
+use Rattle.text_words.proofs.Settled.{chosen, pick_false}
 use Rattle.small_schedule.proofs.Evented.{event-settles}
 
 pub ok-err : {X : Type 0} (x : X) (n : ℕ) → ◌≡◌ {A = Result X ℕ} (Ok x) (Err n) → ⊥

@@ -1,37 +1,10 @@
 -- Texts with what they mean, computed.
 use Rattle.std.proofs.Common.{◌≡◌, [], ◌∷◌, ◌++◌, refl}
-use Rattle.std.specs.Prelude.{None, Some, Ok, Err, codes}
+use Rattle.std.specs.Prelude.{Ok, Err, codes}
 use Rattle.salus_model.specs.declared.schedule.Event.TheVariants as event
-use Rattle.small_schedule.specs.Reading.{front, past, lines_left, with_digits, number_of, pair_of, pairs_of, hex_of, block_of, lie_bytes_of, lie_of, handing_of, event_of, volume_after, volume_of, events_from, schedule_of}
-use Rattle.small_schedule.specs.Grammar.{ended}
-
-greatest_number : number_of (codes "18446744073709551615") ≡ Some 18446744073709551615
-unfolding number_of with_digits
-greatest_number = refl
-
-too_great : number_of (codes "18446744073709551616") ≡ None
-unfolding number_of with_digits
-too_great = refl
-
-leading_zero : number_of (codes "07") ≡ None
-unfolding number_of with_digits
-leading_zero = refl
-
-both_cases : hex_of (codes "fF0a") ≡ Some (255 ∷ 10 ∷ [])
-unfolding hex_of pairs_of pair_of
-both_cases = refl
-
-odd_hex : hex_of (codes "fF0") ≡ None
-unfolding hex_of pairs_of pair_of
-odd_hex = refl
-
-filled_block : block_of 3 (codes "*07") ≡ Some (7 ∷ 7 ∷ 7 ∷ [])
-unfolding block_of pair_of
-filled_block = refl
-
-short_block : block_of 3 (codes "0707") ≡ None
-unfolding block_of hex_of pairs_of pair_of
-short_block = refl
+use Rattle.text_words.specs.Grammar.{ended}
+use Rattle.text_words.specs.Reading.{front, past, lines_left, with_digits, number_of, pair_of, pairs_of, hex_of, block_of, lie_bytes_of}
+use Rattle.small_schedule.specs.Reading.{lie_of, handing_of, event_of, volume_after, volume_of, events_from, schedule_of}
 
 -- the last line end may be left out
 whole_text : schedule_of (ended (codes "volume 0 0 1 1 6b") ++ (ended (codes "write 0 *07") ++ (ended (codes "deliver 1") ++ (ended (codes "read 0") ++ codes "lie 0.0 client -"))))

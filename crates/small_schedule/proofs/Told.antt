@@ -12,7 +12,7 @@ use Rattle.small_schedule.specs.Grammar.{IsEventLine, IsSchedule, IsFirstWrong}
 use Rattle.small_schedule.specs.Limits.{WritesWhole, IsWithinLimits}
 use Rattle.small_schedule.specs.Outcome.{Gives, Refuses}
 use Rattle.small_schedule.specs.Reading.{schedule_of}
-use Rattle.small_schedule.proofs.Hexed.{block_length}
+use Rattle.text_words.proofs.Hexed.{block_length}
 use Rattle.small_schedule.proofs.Whole.{schedule-sound, schedule-only, wrong-sound, wrong-only, wrong-none, one_schedule}
 
 event_whole : (volume : Volume) (line : List ℕ) (e : Event) → IsEventLine volume line e → WritesWhole volume.block e

@@ -6,11 +6,13 @@ use Rattle.std.proofs.lemmas.Option.{none-some}
 use Rattle.salus_model.specs.declared.schedule.Volume.{Volume}
 use Rattle.salus_model.specs.declared.schedule.Event.{Event}
 use Rattle.salus_model.specs.declared.schedule.Schedule.{Schedule}
-use Rattle.small_schedule.specs.Reading.{front, past, lines_left, volume_of, events_from, with_events, after_volume, schedule_of}
-use Rattle.small_schedule.specs.Grammar.{IsLines, IsSchedule, IsWrongVolume, IsWrongLater, IsFirstWrongLine, IsFirstWrong}
-use Rattle.small_schedule.proofs.Settled.{chosen, pick_true, pick_false}
+use Rattle.small_schedule.specs.Reading.{volume_of, events_from, with_events, after_volume, schedule_of}
+use Rattle.text_words.specs.Reading.{front, past, lines_left}
+use Rattle.small_schedule.specs.Grammar.{IsSchedule, IsWrongVolume, IsWrongLater, IsFirstWrongLine, IsFirstWrong}
+use Rattle.text_words.specs.Grammar.{IsLines}
+use Rattle.text_words.proofs.Settled.{chosen, pick_true, pick_false}
 use Rattle.small_schedule.proofs.Regional.{volume-settles}
-use Rattle.small_schedule.proofs.Rows.{lines-sound, lines-only}
+use Rattle.text_words.proofs.Rows.{lines-sound, lines-only}
 use Rattle.small_schedule.proofs.Runs.{ok-err, err-ok, same_Ok, same_Err, none_from, events-sound, events-only, IsBreak, break-sound, break-only}
 
 -- ---- a schedule

@@ -1,12 +1,11 @@
 ghost use Rattle.std.specs.Prelude.{◌≡◌, IfOk, drop};
-ghost use Rattle.small_schedule.specs.Reading.{read_event, deliver_event, lie_event, write_event, lie_of, handing_of, write_of, event_of, number_of, lie_bytes_of};
+ghost use Rattle.small_schedule.specs.Reading.{read_event, deliver_event, lie_event, write_event, lie_of, handing_of, write_of, event_of};
+ghost use Rattle.text_words.specs.Reading.{number_of, lie_bytes_of};
 
-use crate::bytes::{block_of, lie_bytes_of};
-use crate::number::number_of;
-use crate::word::split_first;
 use salus_model::Event;
 use salus_types::NoMemory;
 use std::alloc::Global;
+use text_words::{block_of, lie_bytes_of, number_of, split_first};
 
 fn read_of(word: &[u8]) -> Option<Event>
     ensures { result ≡ read_event (number_of word.now) }

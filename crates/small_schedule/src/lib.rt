@@ -5,13 +5,10 @@
 //! the first line that isn't of the language.
 #![tactic(auto)]
 
-mod bytes;
 mod error;
 mod event;
-mod number;
 mod text;
 mod volume;
-mod word;
 
 pub use error::ParseError;
 pub use text::parse;

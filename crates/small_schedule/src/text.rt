@@ -3,14 +3,15 @@ ghost use Rattle.salus_model.specs.declared.schedule.Schedule.{Schedule};
 ghost use Rattle.small_schedule.specs.Grammar.{IsFirstWrong, IsSchedule};
 ghost use Rattle.small_schedule.specs.Limits.{IsWithinLimits};
 ghost use Rattle.small_schedule.specs.Outcome.{Gives, Refuses};
-ghost use Rattle.small_schedule.specs.Reading.{lines_left, events_from, schedule_of};
+ghost use Rattle.small_schedule.specs.Reading.{events_from, schedule_of};
+ghost use Rattle.text_words.specs.Reading.{lines_left};
 
 use crate::error::ParseError;
 use crate::event::event_of;
 use crate::volume::volume_of;
-use crate::word::split_first;
 use salus_model::{Events, Schedule};
 use std::alloc::Global;
+use text_words::split_first;
 
 /// A text has at most this many bytes.
 const MOST_BYTES: usize = 67_108_864;

@@ -1,12 +1,11 @@
 ghost use Rattle.std.specs.Prelude.{◌≡◌, ◌≤◌, IfOk, IfSome};
-ghost use Rattle.small_schedule.specs.Reading.{is_within, sized_volume, keyed_volume, key_of, volume_after, volume_of};
+ghost use Rattle.small_schedule.specs.Reading.{is_within, sized_volume, keyed_volume, volume_after, volume_of};
+ghost use Rattle.text_words.specs.Reading.{key_of};
 
-use crate::bytes::key_of;
-use crate::number::number_of;
-use crate::word::split_first;
 use salus_model::Volume;
 use salus_types::NoMemory;
 use std::alloc::Global;
+use text_words::{key_of, number_of, split_first};
 
 fn is_within(height: u64, block: u64) -> bool
     ensures { result ≡ is_within height block }

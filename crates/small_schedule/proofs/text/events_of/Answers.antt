@@ -1,7 +1,8 @@
 use Rattle.std.proofs.Common.{◌≡◌, ◌<◌, length, sym, ◌∙◌, arith, rules}
 use Rattle.std.specs.Prelude.{Some, None}
 use Rattle.small_schedule.specs.Reading.{event_of}
-use Rattle.small_schedule.proofs.Stepping.{events-over, events-wrong, events-more, events-end, past_lt}
+use Rattle.small_schedule.proofs.Stepping.{events-over, events-wrong, events-more, events-end}
+use Rattle.text_words.proofs.Stepping.{past_lt}
 use Rattle.small_schedule.proofs.text.events_of.Goals as goal
 
 pub returns-then-line-gt-LAST_LINE : goal.returns-then-line-gt-LAST_LINE

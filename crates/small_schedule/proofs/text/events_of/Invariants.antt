@@ -1,5 +1,6 @@
 use Rattle.std.proofs.Common.{◌≡◌, ◌≤◌, length}
-use Rattle.small_schedule.specs.Reading.{after_events, events_from, lines_left}
+use Rattle.small_schedule.specs.Reading.{after_events, events_from}
+use Rattle.text_words.specs.Reading.{lines_left}
 use Rattle.small_schedule.proofs.text.events_of.Given as goal
 
 abbrev pub invariant-loop-rest : goal.invariant-loop-rest

@@ -2,9 +2,9 @@
 use Rattle.std.proofs.Common.{◌≡◌, ℕ, ◌<◌, Bool, true, false, cond, not, eqb, List, [], ◌∷◌, ◌++◌, length, refl, ap, ◌∙◌, arith}
 use Rattle.std.specs.List.{list_all}
 use Rattle.std.proofs.lemmas.Bool.{and_parts, not-true, eqb-true, eqb-false, ne_eqb, eq-eqb}
-use Rattle.small_schedule.specs.Reading.{front, past}
-use Rattle.small_schedule.specs.Grammar.{Lacks}
-use Rattle.small_schedule.proofs.Settled.{pick_true, pick_false}
+use Rattle.text_words.specs.Reading.{front, past}
+use Rattle.text_words.specs.Grammar.{Lacks}
+use Rattle.text_words.proofs.Settled.{pick_true, pick_false}
 
 pub all_lack : (b : ℕ) (bytes : List ℕ) → list_all (λ c. not (eqb c b)) bytes ≡ true → Lacks b bytes
 all_lack b [] h = tt

@@ -1,8 +1,8 @@
 ghost use Rattle.std.specs.Prelude.{◌≡◌, ◌==◌, position};
-ghost use Rattle.small_schedule.specs.Reading.{front, past};
+ghost use Rattle.text_words.specs.Reading.{front, past};
 
-// The place of the first `separator`.
-fn place_of(bytes: &[u8], separator: u8) -> Option<usize>
+/// The place of the first `separator`.
+pub fn place_of(bytes: &[u8], separator: u8) -> Option<usize>
     ensures { result ≡ position (λ b. b == separator) bytes.now }
 {
     bytes.iter().position(|b| *b == separator)

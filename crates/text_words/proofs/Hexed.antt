@@ -6,10 +6,10 @@ use Rattle.std.proofs.lemmas.Bool.Decides.{Decides-eqb}
 use Rattle.std.proofs.lemmas.Option.{same_Some, none-some}
 use Rattle.std.proofs.lemmas.Slice.Eq.{bytes_eq-Decides, starts_is}
 use Rattle.std.specs.Str.{bytes_eq}
-use Rattle.small_schedule.specs.Reading.{begins, hex_digit, joined_digits, pair_of, onto, pairs_of, hex_of, byte_of, filled, block_of, lie_bytes_of, key_of}
-use Rattle.small_schedule.specs.Grammar.{Lacks, IsHexDigit, IsPair, IsPairs, IsHex, IsBlock, IsLieBytes}
+use Rattle.text_words.specs.Reading.{begins, hex_digit, joined_digits, pair_of, onto, pairs_of, hex_of, byte_of, filled, block_of, lie_bytes_of, key_of}
+use Rattle.text_words.specs.Grammar.{Lacks, IsHexDigit, IsPair, IsPairs, IsHex, IsBlock, IsLieBytes}
 use Rattle.std.proofs.lemmas.List.{length-replicate}
-use Rattle.small_schedule.proofs.Settled.{Settles, pick_true, pick_false, chosen, not_true}
+use Rattle.text_words.proofs.Settled.{Settles, pick_true, pick_false, chosen, not_true}
 
 -- ---- a digit
 

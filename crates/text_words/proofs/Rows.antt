@@ -2,10 +2,10 @@
 use Rattle.std.proofs.Common.{◌≡◌, ◌≢◌, ℕ, Bool, true, false, cond, eqb, List, [], ◌∷◌, ◌++◌, refl, sym, ap, subst, ◌∙◌}
 use Rattle.std.specs.List.{AllByRecursion, flat_map}
 use Rattle.std.proofs.lemmas.Bool.{eqb-true, eqb-false, ne_eqb}
-use Rattle.small_schedule.specs.Reading.{front, past, onto_first_line, lines_left}
-use Rattle.small_schedule.specs.Grammar.{Lacks, ends_line, completed, ended, IsLines}
-use Rattle.small_schedule.proofs.Settled.{pick_false}
-use Rattle.small_schedule.proofs.Stepping.{lines_left_step}
+use Rattle.text_words.specs.Reading.{front, past, onto_first_line, lines_left}
+use Rattle.text_words.specs.Grammar.{Lacks, ends_line, completed, ended, IsLines}
+use Rattle.text_words.proofs.Settled.{pick_false}
+use Rattle.text_words.proofs.Stepping.{lines_left_step}
 
 -- ---- no line has a line end in it
 

@@ -1,5 +1,5 @@
-use Rattle.small_schedule.proofs.Stepping.{front-found, past-found, front-none, past-none}
-use Rattle.small_schedule.proofs.word.split_first.Goals as goal
+use Rattle.text_words.proofs.Stepping.{front-found, past-found, front-none, past-none}
+use Rattle.text_words.proofs.word.split_first.Goals as goal
 
 pub returns-in-Some-clause-front : goal.returns-in-Some-clause-front
 returns-in-Some-clause-front c = front-found _ _ _ c.in-Some.ensures

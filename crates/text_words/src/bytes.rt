@@ -1,5 +1,5 @@
 ghost use Rattle.std.specs.Prelude.{◌≡◌, ◌<◌, IfOk, IfSome};
-ghost use Rattle.small_schedule.specs.Reading.{hex_digit, pair_of, pairs_of, hex_of, byte_of, filled, sized, block_of, lie_bytes_of, key_of};
+ghost use Rattle.text_words.specs.Reading.{hex_digit, pair_of, pairs_of, hex_of, byte_of, filled, sized, block_of, lie_bytes_of, key_of};
 
 use salus_types::{Bytes, NoMemory};
 use std::alloc::Global;
@@ -16,8 +16,9 @@ fn hex_digit(c: u8) -> Option<u8>
     }
 }
 
+/// The byte of two hexadecimal digits of either case.
 #[tactic(auto, unfolding(crate::specs::Reading::pair_of))]
-fn pair_of(high: u8, low: u8) -> Option<u8>
+pub fn pair_of(high: u8, low: u8) -> Option<u8>
     ensures { result ≡ pair_of high low }
 {
     let high = hex_digit(high)?;

@@ -1,5 +1,5 @@
 ghost use Rattle.std.specs.Prelude.{◌≡◌};
-ghost use Rattle.small_schedule.specs.Reading.{starts_number, with_digit, with_digits, number_of};
+ghost use Rattle.text_words.specs.Reading.{starts_number, with_digit, with_digits, number_of};
 
 fn with_digit(number: u64, digit: u8) -> Option<u64>
     ensures { result ≡ with_digit number digit }

@@ -5,9 +5,9 @@ use Rattle.std.proofs.lemmas.Bool.{ltb-true, ltb-false, lt-ltb, le-ltb, ne_eqb, 
 use Rattle.std.proofs.lemmas.Option.{same_Some, none-some, option_and_then_some}
 use Rattle.std.proofs.lemmas.Str.Parse.{IsDigitsTest, FoldsDigits, IsNumeralModel, numerals_by_fold}
 use Rattle.std.proofs.lemmas.Fmt.{digits_decimal, digits_value-decimal, decimal-digits_value, decimal_nonempty, first_decimal, decimal_digit}
-use Rattle.small_schedule.specs.Reading.{with_digit, with_digits, starts_number, number_of}
-use Rattle.small_schedule.specs.Grammar.{Lacks, IsNumber}
-use Rattle.small_schedule.proofs.Settled.{Settles, pick_true, pick_false, chosen, le_lt}
+use Rattle.text_words.specs.Reading.{with_digit, with_digits, starts_number, number_of}
+use Rattle.text_words.specs.Grammar.{Lacks, IsNumber}
+use Rattle.text_words.proofs.Settled.{Settles, pick_true, pick_false, chosen, le_lt}
 
 -- ---- digits and their value
 

@@ -1,8 +1,8 @@
 ghost use Rattle.std.specs.Prelude.{◌≡◌, ◌<◌, ◌++◌, ◌==◌, length, OnOk, IsTrue};
 ghost use Rattle.std.specs.List.{list_all};
-ghost use Rattle.printed_lines.specs.LineText.{hex_digit, pair_text, hex_text, is_uniform, block_text};
+ghost use Rattle.text_words.specs.Writing.{hex_digit, pair_text, hex_text, is_uniform, block_text};
 
-use crate::numbers::put;
+use crate::writer::put;
 use salus_types::NoMemory;
 
 const DIGITS: &[u8; 16] = b"0123456789abcdef";
@@ -14,14 +14,15 @@ fn digit(value: u8) -> u8
     DIGITS[value as usize]
 }
 
-fn pair(byte: u8) -> [u8; 2]
+/// A byte as two digits in lower case.
+pub fn pair(byte: u8) -> [u8; 2]
     ensures { result ≡ pair_text byte }
 {
     [digit(byte / 16), digit(byte % 16)]
 }
 
 /// Writes bytes as hex in lower case.
-#[tactic(auto, unfolding(crate::specs::LineText::hex_text))]
+#[tactic(auto, unfolding(crate::specs::Writing::hex_text))]
 pub fn put_hex(out: &mut Vec<u8>, bytes: &[u8]) -> Result<(), NoMemory>
     ensures { OnOk result (out.new.items ≡ out.old.items ++ hex_text bytes.now) }
 {
@@ -45,7 +46,7 @@ fn uniform(bytes: &[u8]) -> bool
 }
 
 /// Writes a block: `*` and a pair where all its bytes are equal, else its hex.
-#[tactic(auto, unfolding(crate::specs::LineText::block_text))]
+#[tactic(auto, unfolding(crate::specs::Writing::block_text))]
 pub fn put_block(out: &mut Vec<u8>, bytes: &[u8]) -> Result<(), NoMemory>
     ensures { OnOk result (out.new.items ≡ out.old.items ++ block_text bytes.now) }
 {

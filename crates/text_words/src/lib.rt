@@ -1,0 +1,17 @@
+//! The words of a text: what a line's words are, and how numbers, hexadecimal and blocks are read and written.
+//!
+//! `specs/Grammar.antt` says what each word is; a reader gives the one value that a word spells, or `None`, and what a
+//! writer writes is a spelling that the reader reads.
+#![tactic(auto)]
+
+mod bytes;
+mod hex;
+mod number;
+mod word;
+mod writer;
+
+pub use bytes::{block_of, hex_of, key_of, lie_bytes_of, pair_of};
+pub use hex::{pair, put_block, put_hex};
+pub use number::number_of;
+pub use word::{place_of, split_first};
+pub use writer::{put, put_number};
