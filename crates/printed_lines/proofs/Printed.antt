@@ -5,7 +5,7 @@ use Rattle.salus_types.specs.declared.strike.Strike.TheVariants as strike
 use Rattle.salus_model.specs.declared.line.Line.TheVariants as line
 use Rattle.salus_model.specs.declared.line.RequestRefusal.TheVariants as refusal
 use Rattle.text_words.specs.Writing.{hex_text, block_text}
-use Rattle.printed_lines.specs.LineText.{strike_text, replica_text, words_text, line_text, text_of, refusal_text}
+use Rattle.printed_lines.specs.LineText.{strike_text, replica_text, cause_text, words_text, line_text, text_of, refusal_text}
 
 pub two_lines : text_of (line.Submit 1 1 ∷ line.Read 3 0 (7 ∷ []) ∷ []) ≡ codes "submit 1 1" ++ 10 ∷ codes "read 3 0 *07" ++ 10 ∷ []
 unfolding line_text words_text block_text digits
@@ -20,8 +20,44 @@ unfolding line_text words_text replica_text strike_text hex_text digits
 struck_twice = refl
 
 pub outside : text_of (line.Refused 1 (refusal.Range 1) ∷ line.Skip 2 1 ∷ []) ≡ codes "refused 1 range 1" ++ 10 ∷ codes "skip 2 1" ++ 10 ∷ []
-unfolding line_text words_text digits
+unfolding line_text words_text cause_text digits
 outside = refl
+
+pub acknowledged : line_text (line.Ack 12) ≡ codes "ack 12" ++ 10 ∷ []
+unfolding line_text words_text digits
+acknowledged = refl
+
+pub barrier_passed : line_text (line.Barrier 7 12) ≡ codes "barrier 7 12" ++ 10 ∷ []
+unfolding line_text words_text digits
+barrier_passed = refl
+
+pub session_staged : line_text (line.Stage 3 2 12) ≡ codes "stage 3 from 2 12" ++ 10 ∷ []
+unfolding line_text words_text digits
+session_staged = refl
+
+pub session_opened : line_text (line.Open 3) ≡ codes "open 3" ++ 10 ∷ []
+unfolding line_text words_text digits
+session_opened = refl
+
+pub session_lost : line_text (line.Lost 4) ≡ codes "lost 4" ++ 10 ∷ []
+unfolding line_text words_text digits
+session_lost = refl
+
+pub refused_by_the_closed : line_text (line.Refused 8 refusal.Closed) ≡ codes "refused 8 closed" ++ 10 ∷ []
+unfolding line_text words_text cause_text digits
+refused_by_the_closed = refl
+
+pub refused_by_the_serving : line_text (line.Refused 9 refusal.Open) ≡ codes "refused 9 open" ++ 10 ∷ []
+unfolding line_text words_text cause_text digits
+refused_by_the_serving = refl
+
+pub refused_as_full : line_text (line.Refused 17 (refusal.Full 16)) ≡ codes "refused 17 full 16" ++ 10 ∷ []
+unfolding line_text words_text cause_text digits
+refused_as_full = refl
+
+pub refused_in_flight : line_text (line.Refused 10 (refusal.Inflight 12 11 2)) ≡ codes "refused 10 inflight 12 11 2" ++ 10 ∷ []
+unfolding line_text words_text cause_text digits
+refused_in_flight = refl
 
 pub wrong_line : refusal_text 65538 ≡ codes "error 65538 later" ++ 10 ∷ []
 unfolding refusal_text digits

@@ -42,10 +42,15 @@ array volume judge = fold_batches (zero_contents volume) judge.list
 -- what the judge knows after a line
 abbrev pub judged : List Event → Judge → Line → Judge
 judged events judge (line.Submit v s) = record { list = judge.list ++ batch_of (event_at events v); latest = v; ended = judge.ended }
+judged events judge (line.Ack s) = judge
 judged events judge (line.Read v b x) = record { list = judge.list; latest = judge.latest; ended = v ∷ judge.ended }
 judged events judge (line.Fault v b strikes) = record { list = judge.list; latest = judge.latest; ended = v ∷ judge.ended }
+judged events judge (line.Barrier v s) = judge
 judged events judge (line.Refused v cause) = judge
 judged events judge (line.Skip v k) = judge
+judged events judge (line.Stage e f s) = judge
+judged events judge (line.Open e) = judge
+judged events judge (line.Lost e) = judge
 
 -- the same after several lines
 unfoldable pub judged_all : List Event → Judge → List Line → Judge
@@ -68,12 +73,19 @@ pub record IsTheBlock (volume : Volume) (events : List Event) (judge : Judge) (v
   pub once : is_among v judge.ended ≡ false
   pub block : slice_get (array volume judge) b ≡ Some x
 
+-- The rule of each line. Nothing acknowledges a batch yet, and no session opens or is lost, so a line that says so is
+-- no line of a legal history; its rule comes with what prints it.
 abbrev pub IsLegalLine : Volume → List Event → Judge → Line → Type 0
 IsLegalLine volume events judge (line.Submit v s) = IsNextBatch volume events judge v s
+IsLegalLine volume events judge (line.Ack s) = ⊥
 IsLegalLine volume events judge (line.Read v b x) = IsTheBlock volume events judge v b x
 IsLegalLine volume events judge (line.Fault v b strikes) = Unit {0}
+IsLegalLine volume events judge (line.Barrier v s) = ⊥
 IsLegalLine volume events judge (line.Refused v cause) = Unit {0}
 IsLegalLine volume events judge (line.Skip v k) = Unit {0}
+IsLegalLine volume events judge (line.Stage e f s) = ⊥
+IsLegalLine volume events judge (line.Open e) = ⊥
+IsLegalLine volume events judge (line.Lost e) = ⊥
 
 -- each line meets its rule, at what the lines before it say
 unfoldable pub IsLegalFrom : Volume → List Event → Judge → List Line → Type 0

@@ -1,5 +1,5 @@
-ghost use Rattle.std.specs.Prelude.{◌≡◌, IfOk, drop};
-ghost use Rattle.small_schedule.specs.Reading.{read_event, deliver_event, lie_event, write_event, lie_of, handing_of, write_of, event_of};
+ghost use Rattle.std.specs.Prelude.{◌≡◌, IfOk};
+ghost use Rattle.small_schedule.specs.Reading.{read_event, deliver_event, lie_event, lie_of, handing_of, write_of, event_of};
 ghost use Rattle.text_words.specs.Reading.{number_of, lie_bytes_of};
 
 use salus_model::Event;

@@ -1,4 +1,4 @@
-ghost use Rattle.std.specs.Prelude.{◌≡◌, ◌≤◌, IfOk, IfSome};
+ghost use Rattle.std.specs.Prelude.{◌≡◌, IfOk};
 ghost use Rattle.small_schedule.specs.Reading.{is_within, sized_volume, keyed_volume, volume_after, volume_of};
 ghost use Rattle.text_words.specs.Reading.{key_of};
 
