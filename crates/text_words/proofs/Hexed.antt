@@ -7,7 +7,7 @@ use Rattle.std.proofs.lemmas.Option.{same_Some, none-some}
 use Rattle.std.proofs.lemmas.Slice.Eq.{bytes_eq-Decides, starts_is}
 use Rattle.std.specs.Str.{bytes_eq}
 use Rattle.text_words.specs.Reading.{begins, hex_digit, joined_digits, pair_of, onto, pairs_of, hex_of, byte_of, filled, block_of, lie_bytes_of, key_of}
-use Rattle.text_words.specs.Grammar.{Lacks, IsHexDigit, IsPair, IsPairs, IsHex, IsBlock, IsLieBytes}
+use Rattle.text_words.specs.Grammar.{Lacks, IsHexDigit, IsPair, IsPairs, IsByte, IsHex, IsBlock, IsLieBytes, IsKey}
 use Rattle.std.proofs.lemmas.List.{length-replicate}
 use Rattle.text_words.proofs.Settled.{Settles, pick_true, pick_false, chosen, not_true}
 
@@ -158,11 +158,14 @@ hex_there word bytes w =
 
 -- ---- a block
 
-byte-parts : (word : List ℕ) (b : ℕ) → byte_of word ≡ Some b → (first : ℕ) × (second : ℕ) × (word ≡ first ∷ second ∷ []) × IsPair first second b
-byte-parts [] b h = absurd (none-some b h)
-byte-parts (first ∷ []) b h = absurd (none-some b h)
-byte-parts (first ∷ second ∷ []) b h = (first, second, refl, (pair-settles first second).sound b h)
-byte-parts (first ∷ second ∷ c ∷ more) b h = absurd (none-some b h)
+byte-sound : (word : List ℕ) (b : ℕ) → byte_of word ≡ Some b → IsByte word b
+byte-sound [] b h = absurd (none-some b h)
+byte-sound (first ∷ []) b h = absurd (none-some b h)
+byte-sound (first ∷ second ∷ []) b h = record { first = first; second = second; spelled = refl; pair = (pair-settles first second).sound b h }
+byte-sound (first ∷ second ∷ c ∷ more) b h = absurd (none-some b h)
+
+pub byte-settles : (word : List ℕ) → Settles (byte_of word) (IsByte word)
+byte-settles word = record { sound = byte-sound word; only = λ b w. ap byte_of w.spelled ∙ (pair-settles w.first w.second).only b w.pair }
 
 filled-parts : (size : ℕ) (o : Option ℕ) (bytes : List ℕ) → filled size o ≡ Some bytes → (b : ℕ) × (o ≡ Some b) × (bytes ≡ replicate size b)
 filled-parts size None bytes h = absurd (none-some bytes h)
@@ -185,13 +188,13 @@ unfolding block_of
 block-sound size word bytes h = elim (chosen (begins (codes "*") word) _ _ _ h) [
   | inl w ↦
       let f = filled-parts size (byte_of (drop 1 word)) bytes w.1 in
-      let p = byte-parts (drop 1 word) f.0 f.1 in
+      let p = byte-sound (drop 1 word) f.0 f.1 in
       inr (record {
-        first = p.0;
-        second = p.1;
+        first = p.first;
+        second = p.second;
         b = f.0;
-        spelled = (begins_is (codes "*") word).0 w.0 ∙ ap (λ rest. 42 ∷ rest) p.2;
-        pair = p.3;
+        spelled = (begins_is (codes "*") word).0 w.0 ∙ ap (λ rest. 42 ∷ rest) p.spelled;
+        pair = p.pair;
         throughout = f.2;
       })
   | inr w ↦ elim (chosen (eqb (length word) (2 * size)) _ _ _ w.1) [
@@ -280,3 +283,6 @@ pub key-only : (word key : List ℕ) → IsHex word key → length key ≤ 64 �
 key-only word key w most =
     let long = pairs-length word key w.pairs in
     pick_true (leb (length word) 128) _ _ (le-leb (length word) 128 (omega (arith, long, most))) ∙ (hex-settles word).only key w
+
+pub key-settles : (word : List ℕ) → Settles (key_of word) (IsKey word)
+key-settles word = record { sound = key-sound word; only = λ key w. key-only word key w.0 w.1 }

@@ -5,3 +5,6 @@ pub mod Numerals
 pub mod Hexed
 pub mod Rows
 pub mod Samples
+pub mod Worded
+pub mod Written
+pub mod Granted

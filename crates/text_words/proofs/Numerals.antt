@@ -111,11 +111,17 @@ number-spelled n fits =
 pub number-settles : (word : List ℕ) → Settles (number_of word) (IsNumber word)
 number-settles word = record { sound = number-sound word; only = λ n w. ap number_of w.spelled ∙ number-spelled n w.fits }
 
--- ---- no space in it
+-- ---- no space in it, and nothing else below its digits
 
-digits_lack : (ds : List ℕ) → AreDigits ds → Lacks 32 ds
-digits_lack [] w = tt
-digits_lack (d ∷ ds) w = let low = w.0 in ((λ e. absurd (omega (arith, low, e))), digits_lack ds w.2)
+digits_lack : (b : ℕ) (ds : List ℕ) → b < 48 → AreDigits ds → Lacks b ds
+digits_lack b [] below w = tt
+digits_lack b (d ∷ ds) below w = let low = w.0 in ((λ e. absurd (omega (arith, below, low, e))), digits_lack b ds below w.2)
+
+pub number_lacks_low : (b : ℕ) (word : List ℕ) (n : ℕ) → b < 48 → IsNumber word n → Lacks b word
+number_lacks_low b word n below w = subst (Lacks b) (sym w.spelled) (digits_lack b (decimal n) below (digits_decimal own n w.fits))
 
 pub number_lacks : (word : List ℕ) (n : ℕ) → IsNumber word n → Lacks 32 word
-number_lacks word n w = subst (Lacks 32) (sym w.spelled) (digits_lack (decimal n) (digits_decimal own n w.fits))
+number_lacks word n w = number_lacks_low 32 word n (lit< tt) w
+
+pub number_there : (word : List ℕ) (n : ℕ) → IsNumber word n → 0 < length word
+number_there word n w = rw w.spelled (decimal_nonempty n w.fits)

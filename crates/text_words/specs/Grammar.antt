@@ -59,6 +59,13 @@ IsPairs (first ∷ []) bytes = ⊥
 IsPairs (first ∷ second ∷ word) [] = ⊥
 IsPairs (first ∷ second ∷ word) (b ∷ bytes) = IsPair first second b × IsPairs word bytes
 
+-- one pair and no more
+pub record IsByte (word : List ℕ) (b : ℕ) : Type 0 where
+  pub first : ℕ
+  pub second : ℕ
+  pub spelled : word ≡ first ∷ second ∷ []
+  pub pair : IsPair first second b
+
 -- one or more pairs
 pub record IsHex (word bytes : List ℕ) : Type 0 where
   pub some : 0 < length bytes
@@ -90,3 +97,7 @@ pub record IsDash (word bytes : List ℕ) : Type 0 where
 -- the bytes of a lie
 abbrev pub IsLieBytes : List ℕ → List ℕ → Type 0
 IsLieBytes word bytes = IsHex word bytes ⊎ IsDash word bytes
+
+-- the hex of a key, at most 64 bytes
+abbrev pub IsKey : List ℕ → List ℕ → Type 0
+IsKey word key = IsHex word key × (length key ≤ 64)

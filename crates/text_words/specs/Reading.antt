@@ -1,6 +1,6 @@
 -- How lines and words are read, from the left: one function for each rule.
-use Rattle.std.specs.Prelude.{ℕ, ◌+◌, ◌-◌, ◌*◌, ◌^◌, Bool, true, false, not, ◌==◌, ◌&&◌, nat_eq, nat_lt, nat_le, if◌then◌else◌, List, [], ◌∷◌, ◌++◌, length, drop, replicate, codes, Option, None, Some, option_and_then}
-use Rattle.std.specs.List.{starts_with}
+use Rattle.std.specs.Prelude.{ℕ, ◌+◌, ◌-◌, ◌*◌, ◌^◌, Bool, true, false, not, ◌==◌, ◌&&◌, nat_eq, nat_lt, nat_le, if◌then◌else◌, List, [], ◌∷◌, ◌++◌, length, drop, replicate, codes, Option, None, Some, is_some, option_and_then}
+use Rattle.std.specs.List.{starts_with, slice_split}
 use Rattle.std.specs.Str.{bytes_eq}
 
 -- ---- lines and words
@@ -24,6 +24,10 @@ onto_first_line b (line ∷ lines) = (b ∷ line) ∷ lines
 unfoldable pub lines_left : List ℕ → List (List ℕ)
 lines_left [] = []
 lines_left (b ∷ bytes) = if b == 10 then [] ∷ lines_left bytes else onto_first_line b (lines_left bytes)
+
+-- the words of a line: it is cut at each space
+unfoldable pub words_of : List ℕ → List (List ℕ)
+words_of line = slice_split (λ b. b == 32) line
 
 -- the text begins so
 abbrev pub begins : List ℕ → List ℕ → Bool
@@ -92,6 +96,10 @@ pairs_of (high ∷ low ∷ more) = onto (pair_of high low) (pairs_of more)
 -- the bytes of one or more pairs
 unfoldable pub hex_of : List ℕ → Option (List ℕ)
 hex_of word = if length word == 0 then None else pairs_of word
+
+-- whether the word is one or more pairs
+abbrev pub is_hex : List ℕ → Bool
+is_hex word = is_some (hex_of word)
 
 -- one pair and no more
 abbrev pub byte_of : List ℕ → Option ℕ

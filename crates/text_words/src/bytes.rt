@@ -1,5 +1,5 @@
-ghost use Rattle.std.specs.Prelude.{◌≡◌, ◌<◌, IfOk, IfSome};
-ghost use Rattle.text_words.specs.Reading.{hex_digit, pair_of, pairs_of, hex_of, byte_of, filled, sized, block_of, lie_bytes_of, key_of};
+ghost use Rattle.std.specs.Prelude.{◌≡◌, ◌<◌, IfOk, IfSome, is_some};
+ghost use Rattle.text_words.specs.Reading.{hex_digit, pair_of, pairs_of, hex_of, is_hex, byte_of, filled, sized, block_of, lie_bytes_of, key_of};
 
 use salus_types::{Bytes, NoMemory};
 use std::alloc::Global;
@@ -16,9 +16,8 @@ fn hex_digit(c: u8) -> Option<u8>
     }
 }
 
-/// The byte of two hexadecimal digits of either case.
 #[tactic(auto, unfolding(crate::specs::Reading::pair_of))]
-pub fn pair_of(high: u8, low: u8) -> Option<u8>
+fn pair_of(high: u8, low: u8) -> Option<u8>
     ensures { result ≡ pair_of high low }
 {
     let high = hex_digit(high)?;
@@ -46,9 +45,8 @@ fn pairs_of(alloc: Global, word: &[u8]) -> Result<Option<Bytes>, NoMemory>
     })
 }
 
-/// The bytes of one or more pairs of hexadecimal digits.
 #[tactic(auto, unfolding(crate::specs::Reading::hex_of))]
-pub fn hex_of(alloc: Global, word: &[u8]) -> Result<Option<Bytes>, NoMemory>
+fn read_hex(alloc: Global, word: &[u8]) -> Result<Option<Bytes>, NoMemory>
     ensures { IfOk result (λ bytes. bytes ≡ hex_of word.now) }
 {
     if word.is_empty() {
@@ -58,7 +56,28 @@ pub fn hex_of(alloc: Global, word: &[u8]) -> Result<Option<Bytes>, NoMemory>
     }
 }
 
-fn byte_of(word: &[u8]) -> Option<u8>
+#[tactic(auto, unfolding(crate::specs::Reading::pairs_of))]
+fn are_pairs(word: &[u8]) -> bool
+    ensures { result ≡ is_some (pairs_of word.now) }
+{
+    let mut rest = word;
+    while let [high, low, more @ ..] = rest {
+        match pair_of(*high, *low) {
+            Some(_) => rest = more,
+            None => return false,
+        }
+    }
+    rest.is_empty()
+}
+
+#[tactic(auto, unfolding(crate::specs::Reading::hex_of))]
+pub fn reads_as_hex(word: &[u8]) -> bool
+    ensures { result ≡ is_hex word.now }
+{
+    !word.is_empty() && are_pairs(word)
+}
+
+pub fn read_byte(word: &[u8]) -> Option<u8>
     ensures { result ≡ byte_of word.now }
 {
     match word {
@@ -80,41 +99,38 @@ fn sized(alloc: Global, size: u32, word: &[u8]) -> Result<Option<Bytes>, NoMemor
     ensures { IfOk result (λ bytes. bytes ≡ sized size word.now) }
 {
     if word.len() == 2 * size as usize {
-        hex_of(alloc, word)
+        read_hex(alloc, word)
     } else {
         Ok(None)
     }
 }
 
-/// A block of `size` bytes: its bytes in hex, or `*` and the one byte that all of them are.
 #[tactic(auto, unfolding(crate::specs::Reading::block_of))]
-pub fn block_of(alloc: Global, size: u32, word: &[u8]) -> Result<Option<Bytes>, NoMemory>
+pub fn read_block(alloc: Global, size: u32, word: &[u8]) -> Result<Option<Bytes>, NoMemory>
     ensures { IfOk result (λ bytes. bytes ≡ block_of size word.now) }
 {
     match word.strip_prefix(b"*".as_slice()) {
-        Some(pair) => filled(alloc, size, byte_of(pair)),
+        Some(pair) => filled(alloc, size, read_byte(pair)),
         None => sized(alloc, size, word),
     }
 }
 
-/// The bytes of a lie: in hex, or `-` for none.
 #[tactic(auto, unfolding(crate::specs::Reading::lie_bytes_of))]
-pub fn lie_bytes_of(alloc: Global, word: &[u8]) -> Result<Option<Bytes>, NoMemory>
+pub fn read_lie_bytes(alloc: Global, word: &[u8]) -> Result<Option<Bytes>, NoMemory>
     ensures { IfOk result (λ bytes. bytes ≡ lie_bytes_of word.now) }
 {
     if word == b"-".as_slice() {
         Ok(Some(Bytes::new(alloc)))
     } else {
-        hex_of(alloc, word)
+        read_hex(alloc, word)
     }
 }
 
-/// A key of 1 to 64 bytes.
-pub fn key_of(alloc: Global, word: &[u8]) -> Result<Option<Bytes>, NoMemory>
+pub fn read_key(alloc: Global, word: &[u8]) -> Result<Option<Bytes>, NoMemory>
     ensures { IfOk result (λ key. key ≡ key_of word.now) }
 {
     if word.len() <= 128 {
-        hex_of(alloc, word)
+        read_hex(alloc, word)
     } else {
         Ok(None)
     }

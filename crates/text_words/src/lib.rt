@@ -7,11 +7,13 @@
 mod bytes;
 mod hex;
 mod number;
+mod spelled;
 mod word;
+mod words;
 mod writer;
 
-pub use bytes::{block_of, hex_of, key_of, lie_bytes_of, pair_of};
 pub use hex::{pair, put_block, put_hex};
-pub use number::number_of;
+pub use spelled::{block_of, byte_of, is_hex, key_of, lie_bytes_of, number_of};
 pub use word::{place_of, split_first};
+pub use words::{count_words, split_words};
 pub use writer::{put, put_number};

@@ -33,9 +33,8 @@ fn starts_number(word: &[u8]) -> bool
     }
 }
 
-/// The number that a decimal word stands for: at most 2^64 - 1, with no sign and no leading zero.
 #[tactic(auto, unfolding(crate::specs::Reading::number_of))]
-pub fn number_of(word: &[u8]) -> Option<u64>
+pub fn read_number(word: &[u8]) -> Option<u64>
     ensures { result ≡ number_of word.now }
 {
     if starts_number(word) {

@@ -1,9 +1,10 @@
-ghost use Rattle.std.specs.Prelude.{◌≡◌, ◌==◌, position};
+ghost use Rattle.std.specs.Prelude.{◌≡◌, ◌==◌, ◌<◌, length, position, IfSome};
 ghost use Rattle.text_words.specs.Reading.{front, past};
 
 /// The place of the first `separator`.
 pub fn place_of(bytes: &[u8], separator: u8) -> Option<usize>
-    ensures { result ≡ position (λ b. b == separator) bytes.now }
+    ensures value { result ≡ position (λ b. b == separator) bytes.now }
+    ensures within { IfSome result (λ place. place < length bytes.now) }
 {
     bytes.iter().position(|b| *b == separator)
 }

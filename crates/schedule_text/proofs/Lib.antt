@@ -1,0 +1,17 @@
+pub mod Shaped
+pub mod Batched
+pub mod Advancing
+pub mod Decided
+pub mod Parties
+pub mod Keyed
+pub mod Behind
+pub mod Paired
+pub mod Meant
+pub mod Lined
+pub mod Ranged
+pub mod Excluded
+pub mod Wholly
+pub mod Answered
+pub mod Joined
+pub mod Printed
+pub mod PrintedSamples

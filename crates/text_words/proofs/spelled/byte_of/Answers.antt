@@ -1,0 +1,9 @@
+use Rattle.text_words.proofs.Granted.{some-found, some-only}
+use Rattle.text_words.proofs.Hexed.{byte-settles}
+use Rattle.text_words.proofs.spelled.byte_of.Goals as goal
+
+pub returns-clause-found : goal.returns-clause-found
+returns-clause-found c = some-found _ _ _ c.read_byte.ensures (byte-settles c.args.word.now)
+
+pub returns-clause-only : goal.returns-clause-only
+returns-clause-only c = some-only _ _ _ c.read_byte.ensures (byte-settles c.args.word.now)
