@@ -10,3 +10,5 @@ mod codec;
 mod disks;
 #[cfg(test)]
 mod replay;
+#[cfg(test)]
+mod schedules;
