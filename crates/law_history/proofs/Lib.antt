@@ -1,4 +1,3 @@
-pub mod Arrays
 pub mod Shown
 pub mod Standing
 pub mod Asking

@@ -16,7 +16,7 @@ use Rattle.salus_model.specs.declared.trace.TraceStep.{TraceStep}
 use Rattle.salus_model.specs.Judge.{Judge, array, is_among, judged, judged_all, IsLegalLine, IsLegalFrom}
 use Rattle.salus_model.specs.Due.{has_shape, present_root, struck, due_present, due_numbered, due_open, due_answer, open_block}
 use Rattle.salus_model.specs.Seen.{array_strings}
-use Rattle.law_history.proofs.Arrays.{length-array}
+use Rattle.salus_model.proofs.Arrays.{length-array}
 use Rattle.law_history.proofs.Asking.{IsRead, AsksRight, open_read}
 
 -- the lines meet their rules, and submit no event after number n
@@ -48,7 +48,7 @@ module _ (volume : Volume) (events : List Event) (judge : Judge) (n : ℕ) (low 
         asked = read.asked;
         inside = read.inside;
         once = once;
-        block = carried volume.height (array volume judge) a.block a.bytes a.path (length-array volume judge) read.inside none verifies;
+        block = carried volume.height (array volume judge) a.block a.bytes a.path (length-array volume judge.list) read.inside none verifies;
       })
       (omega arith)
 

@@ -1,5 +1,4 @@
 pub mod Tables
-pub mod Arrays
 pub mod Rows
 pub mod Requests
 pub mod Answering

@@ -17,7 +17,7 @@ use Rattle.salus_world.specs.Reading.{with_read}
 use Rattle.salus_world.specs.Cores.{out_of_range, wrote, began, requested}
 use Rattle.law_lines.specs.Mirror.{client_at, Mirrors}
 use Rattle.salus_world.proofs.Choosing.{by_test}
-use Rattle.law_lines.proofs.Arrays.{fold_batches-more}
+use Rattle.salus_model.proofs.Arrays.{fold_batches-more}
 use Rattle.law_lines.proofs.Rows.{AsDue, mirrors-quiet, mirrors-asked}
 
 -- the event that asks it

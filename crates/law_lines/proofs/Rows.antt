@@ -11,7 +11,7 @@ use Rattle.salus_world.specs.Cores.{Told}
 use Rattle.law_lines.specs.Mirror.{client_at, Mirrors}
 use Rattle.salus_world.proofs.Choosing.{by_test, same_either}
 use Rattle.law_lines.proofs.Tables.{block_of-with_read, block_of-without_read}
-use Rattle.law_lines.proofs.Arrays.{length-array}
+use Rattle.salus_model.proofs.Arrays.{length-array}
 
 module _ (volume : Volume) (events : List Event) where
   -- The client's answer gives these lines, and leaves it as the new inbox and those lines say.

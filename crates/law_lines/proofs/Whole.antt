@@ -24,7 +24,7 @@ use Rattle.salus_world.specs.Machine.{Stepped, client_stepped, client_steps, ser
 use Rattle.salus_world.proofs.Growing.{Extends, extends_same, extends_trans, stepped_grows, run_grows}
 use Rattle.law_lines.specs.Mirror.{client_at, Mirrors}
 use Rattle.salus_world.proofs.Choosing.{by_test}
-use Rattle.law_lines.proofs.Arrays.{length-array}
+use Rattle.salus_model.proofs.Arrays.{length-array}
 use Rattle.law_lines.proofs.Rows.{AsDue, mirrors-later}
 use Rattle.law_lines.proofs.Requests.{asking, requested_as_due}
 use Rattle.law_lines.proofs.Deliveries.{received_as_due, lied_as_due}

@@ -1,4 +1,4 @@
--- The array after one more batch.
+-- The array after batches, whatever was written: one more of them, and as many blocks as at first.
 use Rattle.std.proofs.Common.{◌≡◌, ℕ, List, [], ◌∷◌, ◌++◌, ◌∙◌, length, refl}
 use Rattle.std.proofs.Math.ListN.{length-set}
 use Rattle.std.proofs.lemmas.List.{length-replicate}
