@@ -41,11 +41,12 @@ settled o R why s = record {
   wrong = λ c h. let p = err-none o why c h in (p.0, λ x w. none-not o x p.1 (s.only x w));
 }
 
-after-ok : {X Y : Type 0} (r : Result X Cause) (next : X → Result Y Cause) (y : Y) → after r next ≡ Ok y → (x : X) × (r ≡ Ok x) × (next x ≡ Ok y)
+-- what was read before the next one, and what the next one gives
+pub after-ok : {X Y : Type 0} (r : Result X Cause) (next : X → Result Y Cause) (y : Y) → after r next ≡ Ok y → (x : X) × (r ≡ Ok x) × (next x ≡ Ok y)
 after-ok (Ok x) next y h = (x, refl, h)
 after-ok (Err c) next y h = absurd (ok-err y c (sym h))
 
-after-err : {X Y : Type 0} (r : Result X Cause) (next : X → Result Y Cause) (c : Cause) → after r next ≡ Err c
+pub after-err : {X Y : Type 0} (r : Result X Cause) (next : X → Result Y Cause) (c : Cause) → after r next ≡ Err c
     → (r ≡ Err c) ⊎ ((x : X) × (r ≡ Ok x) × (next x ≡ Err c))
 after-err (Ok x) next c h = inr (x, refl, h)
 after-err {Y = Y} (Err d) next c h = inl (ap Err (same_err {X = Y} d c h))

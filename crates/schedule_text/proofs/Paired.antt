@@ -14,7 +14,7 @@ use Rattle.schedule_text.specs.declared.schedule.Event.{Event}
 use Rattle.schedule_text.specs.declared.schedule.Event.TheVariants as event
 use Rattle.schedule_text.specs.Reading.{after, pair_of, with_writes, writes_of, write_of}
 use Rattle.schedule_text.specs.Grammar.{Spells, Kind, ANumber, ABlock, pair_values, pair_kinds, IsFirstWrongWord, IsForm, AreKinds, IsLongWrite, IsEmptyWrite}
-use Rattle.schedule_text.proofs.Decided.{Decides, ok-err, same_ok, same_err, next_word, nothing_more}
+use Rattle.schedule_text.proofs.Decided.{Decides, ok-err, same_ok, same_err, next_word, nothing_more, after-ok, after-err}
 use Rattle.schedule_text.proofs.Parties.{number-decides, block-decides}
 use Rattle.schedule_text.proofs.Keyed.{same_keyword}
 use Rattle.schedule_text.proofs.Behind.{IsOf, Reads, IsWrongHere}
@@ -66,14 +66,6 @@ with-err : (writes : List Write) (r : Result (List Write) Cause) (c : Cause) →
 with-err writes (Ok more) c h = absurd (ok-err (writes ++ more) c h)
 with-err writes (Err d) c h = ap Err (same_err {X = List Write} d c h)
 
-after-pair : (p : Result Write Cause) (next : Write → Result (List Write) Cause) (ws : List Write) → after p next ≡ Ok ws → (w : Write) × (p ≡ Ok w) × (next w ≡ Ok ws)
-after-pair (Ok w) next ws h = (w, refl, h)
-after-pair (Err c) next ws h = absurd (ok-err ws c (sym h))
-
-after-wrong : (p : Result Write Cause) (next : Write → Result (List Write) Cause) (c : Cause) → after p next ≡ Err c → (p ≡ Err c) ⊎ ((w : Write) × (p ≡ Ok w) × (next w ≡ Err c))
-after-wrong (Ok w) next c h = inr (w, refl, h)
-after-wrong (Err d) next c h = inl (ap Err (same_err {X = List Write} d c h))
-
 pair_spelled : (shape : Shape) (a b : List ℕ) (words : List (List ℕ)) (w : Write) (more : List Write) → IsPairOf shape a b w → AllZip (Spells shape) (flat_map pair_values more) words
     → AllZip (Spells shape) (flat_map pair_values (w ∷ more)) (a ∷ b ∷ words)
 pair_spelled shape a b words w more p rest =
@@ -84,7 +76,7 @@ unfolding writes_of
 writes-sound shape [] ws h = subst (λ (l : List Write). AllZip (Spells shape) (flat_map pair_values l) []) (same_ok {E = Cause} [] ws h) tt
 writes-sound shape (a ∷ []) ws h = absurd (ok-err ws cause.Word (sym h))
 writes-sound shape (a ∷ b ∷ words) ws h =
-    let p = after-pair (pair_of shape.block a b) _ ws h in
+    let p = after-ok (pair_of shape.block a b) _ ws h in
     let q = with-ok (p.0 ∷ []) (writes_of shape.block words) ws p.2 in
     subst (λ l. AllZip (Spells shape) (flat_map pair_values l) (a ∷ b ∷ words)) q.2
     (pair_spelled shape a b words p.0 q.0 ((pair-decides shape a b).sound p.0 p.1) (writes-sound shape words q.0 q.1))
@@ -99,7 +91,7 @@ writes-wrong : (shape : Shape) (words : List (List ℕ)) (c : Cause) → Even wo
 unfolding writes_of
 writes-wrong shape [] c even h = absurd (ok-err {X = List Write} [] c h)
 writes-wrong shape (a ∷ []) c even h = absurd even
-writes-wrong shape (a ∷ b ∷ words) c even h = elim (after-wrong (pair_of shape.block a b) _ c h) [
+writes-wrong shape (a ∷ b ∷ words) c even h = elim (after-err (pair_of shape.block a b) _ c h) [
   | inl e ↦ first_wrong shape a b words (pair_kinds (half words)) c ((pair-decides shape a b).wrong c e)
   | inr e ↦
       let p = (pair-decides shape a b).sound e.0 e.1 in

@@ -9,7 +9,7 @@ use Rattle.std.proofs.lemmas.Slice.Eq.{bytes_eq-Decides}
 use Rattle.salus_types.specs.Volume.{Shape, IsVolume}
 use Rattle.text_words.specs.Grammar.{IsLines, IsWords}
 use Rattle.text_words.specs.Reading.{front, past, lines_left, words_of, number_of, key_of}
-use Rattle.text_words.proofs.Settled.{Settles, chosen, pick_true, pick_false}
+use Rattle.text_words.proofs.Settled.{Settles, chosen, pick_true, pick_false, none_from}
 use Rattle.text_words.proofs.Numerals.{number-settles}
 use Rattle.text_words.proofs.Hexed.{key-sound, key-only}
 use Rattle.text_words.proofs.Rows.{lines-sound, lines-only}
@@ -269,10 +269,6 @@ wrong-sound text wrong h = elim (chosen (ltb 67108864 (length text)) _ _ _ h) [
         | inr v ↦ inr (inr (short, v))
       ]
 ]
-
-none_from : {X : Type 0} (o : Option X) → ((x : X) → o ≡ Some x → ⊥) → o ≡ None
-none_from None h = refl
-none_from (Some x) h = absurd (h x refl)
 
 same_wrong : (wrong : ScheduleError) (n : ℕ) (c : Cause) → wrong.line ≡ n → wrong.cause ≡ c → ◌≡◌ {A = Result Schedule ScheduleError} (Err (record { line = n; cause = c })) (Err wrong)
 same_wrong wrong n c is why = ap (λ m. Err (record { line = m; cause = c })) (sym is) ∙ ap (λ d. Err (record { line = wrong.line; cause = d })) (sym why)

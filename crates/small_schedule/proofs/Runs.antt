@@ -8,7 +8,7 @@ use Rattle.salus_model.specs.declared.schedule.Volume.{Volume}
 use Rattle.salus_model.specs.declared.schedule.Event.{Event}
 use Rattle.small_schedule.specs.Reading.{event_of, after_event, after_events, events_from}
 use Rattle.small_schedule.specs.Grammar.{IsEventLine}
-use Rattle.text_words.proofs.Settled.{chosen, pick_false}
+use Rattle.text_words.proofs.Settled.{chosen, pick_false, none_from}
 use Rattle.small_schedule.proofs.Evented.{event-settles}
 
 pub ok-err : {X : Type 0} (x : X) (n : ℕ) → ◌≡◌ {A = Result X ℕ} (Ok x) (Err n) → ⊥
@@ -22,10 +22,6 @@ same_Ok x y h = cc
 
 pub same_Err : {X : Type 0} (m n : ℕ) → ◌≡◌ {A = Result X ℕ} (Err m) (Err n) → m ≡ n
 same_Err m n h = cc
-
-pub none_from : {X : Type 0} (o : Option X) → ((x : X) → o ≡ Some x → ⊥) → o ≡ None
-none_from None h = refl
-none_from (Some x) h = absurd (h x refl)
 
 -- ---- every line is an event
 

@@ -10,10 +10,10 @@ use Rattle.small_schedule.specs.Reading.{volume_of, events_from, with_events, af
 use Rattle.text_words.specs.Reading.{front, past, lines_left}
 use Rattle.small_schedule.specs.Grammar.{IsSchedule, IsWrongVolume, IsWrongLater, IsFirstWrongLine, IsFirstWrong}
 use Rattle.text_words.specs.Grammar.{IsLines}
-use Rattle.text_words.proofs.Settled.{chosen, pick_true, pick_false}
+use Rattle.text_words.proofs.Settled.{chosen, pick_true, pick_false, none_from}
 use Rattle.small_schedule.proofs.Regional.{volume-settles}
 use Rattle.text_words.proofs.Rows.{lines-sound, lines-only}
-use Rattle.small_schedule.proofs.Runs.{ok-err, err-ok, same_Ok, same_Err, none_from, events-sound, events-only, IsBreak, break-sound, break-only}
+use Rattle.small_schedule.proofs.Runs.{ok-err, err-ok, same_Ok, same_Err, events-sound, events-only, IsBreak, break-sound, break-only}
 
 -- ---- a schedule
 

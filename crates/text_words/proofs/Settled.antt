@@ -1,6 +1,6 @@
 -- A reading that finds exactly what a relation says.
 use Rattle.std.proofs.Common.{◌≡◌, ◌⊎◌, ℕ, Bool, true, false, cond, refl, ap, inl, inr, ◌<◌, ◌≤◌, arith}
-use Rattle.std.specs.Prelude.{Option, Some}
+use Rattle.std.specs.Prelude.{Option, None, Some}
 
 pub record Settles {X : Type 0} (o : Option X) (R : X → Type 0) : Type 0 where
   pub sound : (x : X) → o ≡ Some x → R x
@@ -23,3 +23,8 @@ le_lt a b c p q = omega arith
 pub not_true : (t : Bool) → ¬ (t ≡ true) → t ≡ false
 not_true true h = absurd (h refl)
 not_true false h = refl
+
+-- where nothing can be held, nothing is
+pub none_from : {X : Type 0} (o : Option X) → ((x : X) → o ≡ Some x → ⊥) → o ≡ None
+none_from None h = refl
+none_from (Some x) h = absurd (h x refl)
