@@ -9,7 +9,8 @@ use Rattle.salus_types.specs.declared.records.Base.{Base}
 use Rattle.salus_codec.specs.Spelling.{IsBytes, be2, be4}
 use Rattle.std.specs.Prelude.{IfOk}
 use Rattle.salus_codec.specs.declared.errors.FieldError.{FieldError}
-use Rattle.salus_codec.specs.Reading.{◌>>=◌, Gives, bytes_at, u16_at, u32_at}
+use Rattle.salus_types.specs.Outcome.{Gives}
+use Rattle.salus_codec.specs.Reading.{◌>>=◌, field_fault, bytes_at, u16_at, u32_at}
 use Rattle.salus_codec.specs.Formats.{within, times}
 use Rattle.salus_codec.proofs.Formats.{IsFormat, is_bytes, is_u8, is_u16, is_u32, is_u64, is_both, is_made, is_within, is_sized, is_counted, times_takes, times_again, no_prefix, bind_ok, rest_fits}
 use Rattle.client_tag.specs.Spelling.{batch_bytes, before_bytes, numbers_bytes, regions_bytes, after_bytes, header_bytes, write_bytes, writes_bytes, payload_bytes, record_bytes, size_of, joined, blocks_bytes, base_bytes}
@@ -190,11 +191,11 @@ is_base =
 
 -- ---- what a reader of records answers
 
-pub record_found : (old new : List ℕ) (r : Result Record FieldError) → IsBytes old → Gives (λ x. (x, new)) r (record_at old) → IfOk r (λ x. (old ≡ record_bytes x ++ new) × IsRecord x × IsTyped x)
+pub record_found : (old new : List ℕ) (r : Result Record FieldError) → IsBytes old → Gives (λ x. Ok (x, new)) field_fault r (record_at old) → IfOk r (λ x. (old ≡ record_bytes x ++ new) × IsRecord x × IsTyped x)
 record_found old new (Ok x) fits given = let t = is_record.takes old x new fits given in (t.0, t.1.counts, t.1.widths)
 record_found old new (Err e) fits given = tt
 
-pub record_alone : (old new : List ℕ) (r : Result Record FieldError) → IsBytes old → Gives (λ x. (x, new)) r (record_at old)
+pub record_alone : (old new : List ℕ) (r : Result Record FieldError) → IsBytes old → Gives (λ x. Ok (x, new)) field_fault r (record_at old)
     → IfOk r (λ x. (y : Record) (after : List ℕ) → IsRecord y → IsTyped y → record_bytes y ++ after ≡ record_bytes x → (y ≡ x) × (after ≡ []))
 record_alone old new (Ok x) fits given =
     let t = is_record.takes old x new fits given in

@@ -1,9 +1,10 @@
 ghost use Rattle.std.specs.Prelude.{◌≡◌, ◌++◌, ◌≤◌, ◌<◌, All, List, ℕ, length, Ok, IfOk, OnOk};
 ghost use Rattle.std.specs.List.{AllByRecursion};
-ghost use Rattle.salus_codec.specs.Reading.{Gives, bytes_at, u16_at};
+ghost use Rattle.salus_types.specs.Outcome.{Gives};
+ghost use Rattle.salus_codec.specs.Reading.{field_fault, bytes_at, u16_at};
 ghost use Rattle.salus_codec.specs.Formats.{times, within};
 ghost use Rattle.client_tag.specs.Spelling.{joined, size_of, blocks_bytes, base_bytes};
-ghost use Rattle.client_tag.specs.Ranges.{AreBlocks, IsBase, IsBetween};
+ghost use Rattle.client_tag.specs.Ranges.{AreBlocks, IsBase, IsBetween, IsTyped};
 ghost use Rattle.client_tag.specs.Reading.{least_size, most_size, blocks_at, base_at};
 
 use crate::part::read_bytes;
@@ -18,7 +19,7 @@ fn read_each_block(
     size: u16,
     fields: &mut Fields,
 ) -> Result<Blocks, RecordError>
-    ensures { Gives (λ x. (x, fields.new)) result (times (bytes_at size) count fields.old) }
+    ensures { Gives (λ x. Ok (x, fields.new)) field_fault result (times (bytes_at size) count fields.old) }
 {
     let mut blocks = Items::new(alloc);
     'each: for _ in 0..count {
@@ -29,7 +30,7 @@ fn read_each_block(
 }
 
 fn read_size(count: u32, fields: &mut Fields) -> Result<u16, RecordError>
-    ensures { Gives (λ x. (x, fields.new)) result (within (least_size count) (most_size count) u16_at fields.old) }
+    ensures { Gives (λ x. Ok (x, fields.new)) field_fault result (within (least_size count) (most_size count) u16_at fields.old) }
 {
     if count == 0 {
         fields.u16_within(0, 0)
@@ -41,7 +42,7 @@ fn read_size(count: u32, fields: &mut Fields) -> Result<u16, RecordError>
 /// The blocks at the front of the fields. After an error the fields may stand anywhere.
 #[tactic(auto, unfolding(crate::specs::Reading::blocks_at))]
 pub fn read_blocks(alloc: Global, fields: &mut Fields) -> Result<Blocks, RecordError>
-    ensures { Gives (λ x. (x, fields.new)) result (blocks_at fields.old) }
+    ensures { Gives (λ x. Ok (x, fields.new)) field_fault result (blocks_at fields.old) }
 {
     let count = fields.u32_within(0, 4096)?;
     let size = read_size(count, fields)?;
@@ -51,7 +52,7 @@ pub fn read_blocks(alloc: Global, fields: &mut Fields) -> Result<Blocks, RecordE
 /// The base at the front of the fields. After an error the fields may stand anywhere.
 #[tactic(auto, unfolding(crate::specs::Reading::base_at))]
 pub fn read_base(alloc: Global, fields: &mut Fields) -> Result<Base, RecordError>
-    ensures { Gives (λ x. (x, fields.new)) result (base_at fields.old) }
+    ensures { Gives (λ x. Ok (x, fields.new)) field_fault result (base_at fields.old) }
 {
     let rec = read_record(alloc, fields)?;
     let blocks = read_blocks(alloc, fields)?;
@@ -92,7 +93,8 @@ pub fn write_blocks(blocks: &Blocks, out: &mut Vec<u8>) -> Result<(), NoMemory>
 #[tactic(auto, unfolding(crate::specs::Spelling::base_bytes))]
 pub fn write_base(base: &Base, out: &mut Vec<u8>) -> Result<(), NoMemory>
     requires { IsBase base.now }
-    ensures { OnOk result (out.new.items ≡ out.old.items ++ base_bytes base.now) }
+    ensures bytes { OnOk result (out.new.items ≡ out.old.items ++ base_bytes base.now) }
+    ensures typed { OnOk result (IsTyped base.now.rec) }
 {
     write_record(&base.rec, out)?;
     write_blocks(&base.blocks, out)

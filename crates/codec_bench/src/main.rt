@@ -1,66 +1,152 @@
-//! Decodes and encodes 100,000 answers of 4,096 bytes and 100,000 votes. How many came out as they went in goes to
-//! standard output, the time to standard error.
+//! Decodes and encodes 100,000 different answers with blocks of 4,096 bytes, and 100,000 different votes; those of a
+//! kind lie in one allocation. How many came out as they went in goes to standard output, and the time to standard
+//! error; making the messages and comparing what came out aren't timed.
+//!
+//! It also seals a record of one write of 256 bytes under 100,000 numbers, and hashes as many texts of its length.
 #![tactic(auto)]
 
+ghost use Rattle.std.specs.Prelude.{◌<◌};
+ghost use Rattle.client_tag.specs.Ranges.{IsRecord};
+
+mod messages;
+mod seals;
+
+use crate::messages::{ANSWER_BYTES, VOTE_BYTES, answers, votes};
+use crate::seals::{hash_each, part, seal_each, sealed_well};
+use client_tag::payload;
+use salus_hash::HmacKey;
 use salus_message::{decode, encode};
-use salus_types::NoMemory;
+use salus_types::{NoMemory, Record};
 use std::alloc::Global;
 use std::io;
 use std::rt::Runtime;
 use std::time::Instant;
 
-const TIMES: u32 = 100_000;
+const COUNT: u32 = 100_000;
 
-/// So many zero bytes after the first ones.
-fn padded(alloc: Global, first: &[u8], zeros: usize) -> Result<Vec<u8>, NoMemory> {
-    let mut bytes = Vec::from_slice(alloc, first)?;
-    for _ in 0..zeros {
-        bytes.push(0)?;
-    }
-    Ok(bytes)
-}
+const TURNS: u32 = 100;
 
-/// An answer with a block of 4,096 bytes and no path.
-fn answer(alloc: Global) -> Result<Vec<u8>, NoMemory> {
-    let mut bytes = padded(alloc, &[5], 28)?;
-    bytes.extend_from_slice(&[16, 0])?;
-    bytes.extend_from_slice(&[7; 4096])?;
-    bytes.push(0)?;
-    Ok(bytes)
-}
-
-/// How many of the messages are read and written again. Each has another number.
-fn again(alloc: Global, bytes: &mut Vec<u8>) -> Result<u32, NoMemory> {
-    let mut good: u32 = 0;
-    for number in 0..TIMES {
-        if let Some(place) = bytes.get_mut(16) {
-            *place = (number % 256) as u8;
-        }
-        if let Ok(message) = decode(alloc, bytes.as_slice()) {
-            let written = encode(alloc, &message)?;
-            if written.len() == bytes.len() {
-                good = good.saturating_add(1);
+/// How many of the messages are decoded, and encoded at the same length.
+fn pass(alloc: Global, bytes: &[u8], size: usize) -> Result<u32, NoMemory>
+    requires { 0 < size }
+{
+    let mut done: u32 = 0;
+    for message in bytes.chunks_exact(size) {
+        if let Ok(decoded) = decode(alloc, message) {
+            let encoded = encode(alloc, &decoded)?;
+            if encoded.len() == size {
+                done = done.saturating_add(1);
             }
         }
     }
-    Ok(good)
+    Ok(done)
 }
 
-/// Runs the messages again and again, and prints how many are good and how long it took.
-fn measure(rt: &impl Runtime, alloc: Global, name: &str, bytes: &mut Vec<u8>) -> io::Result<()> {
+/// How many of the messages come out as they went in.
+fn again(alloc: Global, bytes: &[u8], size: usize) -> Result<u32, NoMemory>
+    requires { 0 < size }
+{
+    let mut same: u32 = 0;
+    for message in bytes.chunks_exact(size) {
+        if let Ok(decoded) = decode(alloc, message) {
+            if encode(alloc, &decoded)?.as_slice() == message {
+                same = same.saturating_add(1);
+            }
+        }
+    }
+    Ok(same)
+}
+
+/// Runs over the messages of one kind, and prints how many come out as they went in and how long one run took.
+fn measure(
+    rt: &impl Runtime,
+    alloc: Global,
+    name: &str,
+    bytes: &[u8],
+    size: usize,
+) -> io::Result<()>
+    requires { 0 < size }
+{
     let start = Instant::now(rt)?;
-    let good = again(alloc, bytes).unwrap_or(0);
-    let millis = start.elapsed(rt)?.as_millis();
-    println!(rt; "{name}: {good} of {TIMES} with {} bytes", bytes.len())?;
-    eprintln!(rt; "{name}: {millis} ms")
+    let done = pass(alloc, bytes, size);
+    let micros = start.elapsed(rt)?.as_micros();
+    let same = again(alloc, bytes, size).unwrap_or(0);
+    println!(rt; "{name}: {same} of {COUNT} with {size} bytes")?;
+    eprintln!(rt; "{name}: {} in {micros} us", done.unwrap_or(0))
+}
+
+/// How many microseconds it takes to seal a record under each of these numbers, and to hash as many texts of the payload's
+/// length and two blocks. The third number mixes what came out.
+fn seal_and_hash_turn(
+    rt: &impl Runtime,
+    alloc: Global,
+    key: &HmacKey,
+    rec: &mut Record,
+    from: u32,
+    to: u32,
+) -> io::Result<(u128, u128, u8)>
+    requires { IsRecord rec.old }
+{
+    let start = Instant::now(rt)?;
+    let sealed = seal_each(alloc, key, rec, from, to).unwrap_or(0);
+    let sealing = start.elapsed(rt)?.as_micros();
+    let start = Instant::now(rt)?;
+    let hashed = hash_each(from, to);
+    Ok((sealing, start.elapsed(rt)?.as_micros(), sealed ^ hashed))
+}
+
+/// A turn with a record of its own. Where memory is wanting it takes no time.
+fn turn_of(
+    rt: &impl Runtime,
+    alloc: Global,
+    key: &HmacKey,
+    from: u32,
+    to: u32,
+) -> io::Result<(u128, u128, u8)> {
+    match part(alloc) {
+        Ok(mut rec) => seal_and_hash_turn(rt, alloc, key, &mut rec, from, to),
+        Err(_) => Ok((0, 0, 0)),
+    }
+}
+
+/// Sealing and hashing by turns, so that both meet the machine in the same state: the microseconds of each, and a mix of
+/// what came out.
+fn seal_and_hash(rt: &impl Runtime, alloc: Global, key: &HmacKey) -> io::Result<(u128, u128, u8)> {
+    let mut sealing: u128 = 0;
+    let mut hashing: u128 = 0;
+    let mut mixed: u8 = 0;
+    for turn in 0..TURNS {
+        let from = turn * (COUNT / TURNS);
+        let (sealed, hashed, mix) = turn_of(rt, alloc, key, from, from + COUNT / TURNS)?;
+        sealing = sealing.saturating_add(sealed);
+        hashing = hashing.saturating_add(hashed);
+        mixed ^= mix;
+    }
+    Ok((sealing, hashing, mixed))
+}
+
+/// Prints how many records are genuine once they are sealed, how long sealing took, and how long hashing.
+fn measure_seals(rt: &impl Runtime, alloc: Global, mut rec: Record) -> io::Result<()>
+    requires { IsRecord rec }
+{
+    let key = HmacKey::new(b"Jefe");
+    let (sealing, hashing, mixed) = seal_and_hash(rt, alloc, &key)?;
+    let size = payload(alloc, &rec).map_or(0, |bytes| bytes.len());
+    let good = sealed_well(alloc, &key, &mut rec, COUNT).unwrap_or(0);
+    println!(rt; "seals: {good} of {COUNT} with payloads of {size} bytes")?;
+    eprintln!(rt; "seals: {COUNT} in {sealing} us, mixed to {mixed}")?;
+    eprintln!(rt; "hashes: {COUNT} in {hashing} us")
 }
 
 fn main(rt: HostRuntime) -> io::Result<()> {
-    if let Ok(mut bytes) = answer(rt.alloc()) {
-        measure(&rt, rt.alloc(), "answers", &mut bytes)?;
+    if let Ok(bytes) = answers(rt.alloc(), COUNT) {
+        measure(&rt, rt.alloc(), "answers", bytes.as_slice(), ANSWER_BYTES)?;
     }
-    if let Ok(mut bytes) = padded(rt.alloc(), &[2], 50) {
-        measure(&rt, rt.alloc(), "votes", &mut bytes)?;
+    if let Ok(bytes) = votes(rt.alloc(), COUNT) {
+        measure(&rt, rt.alloc(), "votes", bytes.as_slice(), VOTE_BYTES)?;
+    }
+    if let Ok(rec) = part(rt.alloc()) {
+        measure_seals(&rt, rt.alloc(), rec)?;
     }
     Ok(())
 }

@@ -1,13 +1,15 @@
 -- A log that was just loaded.
-use Rattle.std.proofs.Common.{◌≡◌, ℕ, false, List, [], ◌∷◌, ◌++◌, length, Result, Ok, Err, IfOk, IfErr, refl, sym, ◌∙◌, ap, subst}
-use Rattle.disk_model.specs.Disk.{Moment, History, Now, Goes, IsSynced, clean}
-use Rattle.disk_model.proofs.Passing.{now_map}
+use Rattle.std.proofs.Common.{◌≡◌, ℕ, ◌<◌, false, List, [], ◌∷◌, ◌++◌, length, drop, get_or, Result, Ok, Err, IfOk, IfErr, refl, sym, ◌∙◌, ap, subst, arith}
+use Rattle.std.specs.List.{slice_get}
+use Rattle.disk_model.specs.Disk.{Moment, History, Now, Goes, IsSynced, EachImage, clean}
+use Rattle.disk_model.proofs.Passing.{now_map, each_clean}
 use Rattle.datanode_log.specs.declared.error.LogError.{LogError}
-use Rattle.datanode_log.specs.Entries.{entries_of}
+use Rattle.datanode_log.specs.Entries.{entries_of, end_of}
 use Rattle.datanode_log.specs.Logs.{IsLog, Refuses}
-use Rattle.datanode_log.specs.Known.{IsLoaded, SoundAt}
+use Rattle.datanode_log.specs.Known.{IsLoaded, IsSpelled, SoundAt}
 use Rattle.datanode_log.proofs.Spelling.{spelled_log}
 use Rattle.datanode_log.proofs.Torn.{length-spans}
+use Rattle.datanode_log.proofs.Places.{IsSpan, known_span}
 use Rattle.datanode_log.proofs.Stages.{known_all}
 
 pub if_ok : {T E : Type 0} (result : Result T E) (P Q : T → Type 0) → ((value : T) → P value → Q value) → IfOk result P → IfOk result Q
@@ -56,5 +58,17 @@ loaded_sound (was ∷ before) new gate spans went synced loaded = λ now past is
     record {
       spelled = here.spelled;
       known = known_all spans (entries_of now.seen) here.spans_are;
-      rest = λ works. record { synced = at ∙ ap clean (sym seen); gate_is = here.gate_is; all = ap length here.spans_are ∙ length-spans 8 (entries_of now.seen) };
+      rest = λ works. record { each = subst (λ (m : Moment). EachImage m (λ image. IsSpelled image (entries_of now.seen))) (sym (at ∙ ap clean (sym seen))) (each_clean now.seen (λ image. IsSpelled image (entries_of now.seen)) here.spelled); gate_is = here.gate_is; all = ap length here.spans_are ∙ length-spans 8 (entries_of now.seen) };
     }
+
+pub whole_log : (bytes : List ℕ) (gate : ℕ) (spans : List (ℕ × ℕ)) → IsLoaded bytes gate spans → IsLog bytes (entries_of bytes)
+whole_log bytes gate spans loaded = spelled_log bytes (entries_of bytes) loaded.spelled
+
+pub whole_count : (bytes : List ℕ) (gate : ℕ) (spans : List (ℕ × ℕ)) → IsLoaded bytes gate spans → length spans ≡ length (entries_of bytes)
+whole_count bytes gate spans loaded = ap length loaded.spans_are ∙ length-spans 8 (entries_of bytes)
+
+-- where an entry stands in the bytes that were read
+pub whole_span : (bytes : List ℕ) (gate : ℕ) (spans : List (ℕ × ℕ)) (i : ℕ) (span : ℕ × ℕ) → IsLoaded bytes gate spans → i < length (entries_of bytes) → span ≡ get_or spans i span → IsSpan bytes span (slice_get (entries_of bytes) i)
+whole_span bytes gate spans i span loaded there is =
+    let entries = entries_of bytes in
+    subst (λ (s : ℕ × ℕ). IsSpan bytes s (slice_get entries i)) (sym is) (known_span bytes entries (drop (end_of entries) bytes) spans i span loaded.spelled.split (known_all spans entries loaded.spans_are) (omega (arith, whole_count bytes gate spans loaded)))

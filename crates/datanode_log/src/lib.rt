@@ -6,6 +6,8 @@ mod access;
 pub mod error;
 mod layout;
 pub mod log;
+pub mod spelled;
 
 pub use error::{LogError, Refused};
-pub use log::Log;
+pub use log::{Loaded, Log};
+pub use spelled::Spelled;

@@ -1,14 +1,18 @@
-ghost use Rattle.std.specs.Prelude.{◌≡◌, ◌≤◌, ◌<◌, ◌+◌, ◌++◌, ◌∷◌, ◌||◌, ◌^◌, [], List, true, false, length, slice_get, vec_len, vec_capacity, IfOk, IfErr, OnOk, OnErr, IsTrue, MatchResult};
+ghost use Rattle.std.specs.Prelude.{◌≡◌, ◌≤◌, ◌<◌, ◌+◌, ◌++◌, ◌∷◌, ◌||◌, ◌^◌, [], List, true, false, length, take, drop, Some, slice_get, vec_len, vec_capacity, IfOk, IfErr, OnOk, OnErr, IsTrue, MatchResult};
 ghost use Rattle.std.proofs.Props.{props};
 ghost use Rattle.disk_model.specs.Disk.{Moment, Now, EachImage, Goes, IsSynced, Through, clean};
 ghost use Rattle.datanode_log.specs.Entries.{entries_of, log_of, framed};
-ghost use Rattle.datanode_log.specs.Logs.{IsLog, IsBeforeOrAfter, entries_now, Refuses};
+ghost use Rattle.disk_lane.specs.Lanes.{lane_history};
+ghost use Rattle.disk_lane.specs.Heads.{IsHead};
+ghost use Rattle.datanode_log.specs.Logs.{IsLog, IsBeforeOrAfter, IsLiveLog, IsLiveEither, entries_now, Refuses};
 ghost use Rattle.datanode_log.specs.Causes.{is_device, says_device, IsOutside, IsCaused, KeepsSure};
 ghost use Rattle.datanode_log.specs.Known.{IsSound, IsLoaded};
 
 use crate::access::{read_all, read_range, write_synced};
 use crate::error::{LogError, Refused};
 use crate::layout::{EMPTY, Found, frame, parse};
+use crate::spelled::Spelled;
+use disk_lane::Lane;
 use disk_model::{Disk, DiskFault, MemDisk};
 use salus_types::NoMemory;
 use std::alloc::Global;
@@ -24,12 +28,22 @@ pub struct Log<D: Disk> {
     ghost sound: { (now : Moment) (past : List Moment) → D.history disk ≡ now ∷ past → IsSound now gate spans.items failed } by { Prim.hlevel props },
 }
 
-// Syncs a disk and reads its log.
-fn read_log<D: Disk>(alloc: Global, disk: &mut D) -> Result<Found, LogError>
+/// A log that was just loaded, with the bytes of its file, so that its entries are read with no further call.
+#[derive(Drop)]
+pub struct Loaded<D: Disk> {
+    log: Log<D>,
+    bytes: Vec<u8>,
+    ghost whole: { IsLoaded bytes.items log.gate log.spans.items } by { Prim.hlevel props },
+}
+
+// Syncs a disk and reads its log, with the bytes of the file.
+fn read_log<D: Disk>(alloc: Global, disk: &mut D) -> Result<(Found, Vec<u8>), LogError>
     ensures synced { OnOk result (Now (D.history disk.old) (λ old. Now (D.history disk.new) (λ now. now ≡ clean old.seen))) }
     ensures moments { Goes IsSynced (D.history disk.old) (D.history disk.new) }
-    ensures whole { IfOk result (λ found. Now (D.history disk.old) (λ old. IsLoaded old.seen found.gate found.spans.items)) }
+    ensures bytes { IfOk result (λ read. Now (D.history disk.old) (λ old. read.1.items ≡ old.seen)) }
+    ensures whole { IfOk result (λ read. IsLoaded read.1.items read.0.gate read.0.spans.items) }
     ensures refused { IfErr result (λ error. Now (D.history disk.old) (λ old. Refuses error old.seen)) }
+    ensures stays { D.stays disk.old disk.new }
     ensures cause { IsCaused (D.faults disk.old) (D.faults disk.new) (says_device result) }
     ensures sure { KeepsSure (D.is_sure disk.old) (D.is_sure disk.new) (says_device result) }
 {
@@ -43,7 +57,10 @@ fn read_log<D: Disk>(alloc: Global, disk: &mut D) -> Result<Found, LogError>
         Err(DiskFault::Device) => return Err(LogError::Device),
         Err(DiskFault::NoMemory) => return Err(LogError::NoMemory),
     };
-    parse(alloc, bytes.as_slice())
+    match parse(alloc, bytes.as_slice()) {
+        Ok(found) => Ok((found, bytes)),
+        Err(error) => Err(error),
+    }
 }
 
 // The bytes to write behind a gate, and the room to know of one more entry.
@@ -67,12 +84,21 @@ fn prepare(
     Ok(bytes)
 }
 
+// So many bytes from a place on.
+fn piece(bytes: &[u8], at: usize, len: usize) -> &[u8]
+    requires { at + len ≤ length bytes.now }
+    ensures { result.now ≡ take len (drop at bytes.now) }
+{
+    &bytes[at..at + len]
+}
+
 impl<D: Disk> Log<D> {
     /// Writes a log of no entries to an empty disk. After an error the disk may hold a part of it.
     pub fn format(disk: &mut D) -> Result<(), LogError>
         requires { Now (D.history disk.old) (λ now. now.seen ≡ []) }
         ensures formatted { OnOk result (Now (D.history disk.new) (λ now. now ≡ clean (log_of [] ++ 0 ∷ []))) }
         ensures only { IfErr result IsOutside }
+        ensures stays { D.stays disk.old disk.new }
         ensures cause { IsCaused (D.faults disk.old) (D.faults disk.new) (says_device result) }
         ensures sure { KeepsSure (D.is_sure disk.old) (D.is_sure disk.new) (says_device result) }
     {
@@ -86,24 +112,46 @@ impl<D: Disk> Log<D> {
     /// Syncs a disk and reads its log. What isn't loaded is handed back.
     ///
     /// `Foreign` and `Damaged` yield to `Device`, and all of them to want of memory.
-    pub fn load(alloc: Global, mut disk: D) -> Result<Log<D>, Refused<D, LogError>>
+    pub fn load(alloc: Global, disk: D) -> Result<Log<D>, Refused<D, LogError>>
         ensures synced { IfOk result (λ log. Now (D.history disk) (λ old. Now (D.history log.disk) (λ now. now ≡ clean old.seen))) }
         ensures whole { IfOk result (λ log. Now (D.history disk) (λ old. IsLog old.seen (entries_of old.seen))) }
         ensures count { IfOk result (λ log. Now (D.history disk) (λ old. vec_len log.spans ≡ length (entries_of old.seen))) }
         ensures working { IfOk result (λ log. log.failed ≡ false) }
         ensures refused { IfErr result (λ refused. Now (D.history disk) (λ old. Refuses refused.error old.seen)) }
         ensures moments { MatchResult result (λ log. Goes IsSynced (D.history disk) (D.history log.disk)) (λ refused. Goes IsSynced (D.history disk) (D.history refused.disk)) }
+        ensures stays { MatchResult result (λ log. D.stays disk log.disk) (λ refused. D.stays disk refused.disk) }
         ensures cause { MatchResult result (λ log. D.faults log.disk ≡ D.faults disk) (λ refused. IsCaused (D.faults disk) (D.faults refused.disk) (is_device refused.error)) }
         ensures sure { MatchResult result (λ log. KeepsSure (D.is_sure disk) (D.is_sure log.disk) false) (λ refused. KeepsSure (D.is_sure disk) (D.is_sure refused.disk) (is_device refused.error)) }
     {
+        match Log::load_whole(alloc, disk) {
+            Ok(loaded) => Ok(loaded.into_log()),
+            Err(refused) => Err(refused),
+        }
+    }
+
+    /// As `load`, with the bytes of the file, which were read once.
+    pub fn load_whole(alloc: Global, mut disk: D) -> Result<Loaded<D>, Refused<D, LogError>>
+        ensures synced { IfOk result (λ loaded. Now (D.history disk) (λ old. Now (D.history loaded.log.disk) (λ now. now ≡ clean old.seen))) }
+        ensures bytes { IfOk result (λ loaded. Now (D.history disk) (λ old. loaded.bytes.items ≡ old.seen)) }
+        ensures whole { IfOk result (λ loaded. IsLog loaded.bytes.items (entries_of loaded.bytes.items)) }
+        ensures working { IfOk result (λ loaded. loaded.log.failed ≡ false) }
+        ensures refused { IfErr result (λ refused. Now (D.history disk) (λ old. Refuses refused.error old.seen)) }
+        ensures moments { MatchResult result (λ loaded. Goes IsSynced (D.history disk) (D.history loaded.log.disk)) (λ refused. Goes IsSynced (D.history disk) (D.history refused.disk)) }
+        ensures stays { MatchResult result (λ loaded. D.stays disk loaded.log.disk) (λ refused. D.stays disk refused.disk) }
+        ensures cause { MatchResult result (λ loaded. D.faults loaded.log.disk ≡ D.faults disk) (λ refused. IsCaused (D.faults disk) (D.faults refused.disk) (is_device refused.error)) }
+        ensures sure { MatchResult result (λ loaded. KeepsSure (D.is_sure disk) (D.is_sure loaded.log.disk) false) (λ refused. KeepsSure (D.is_sure disk) (D.is_sure refused.disk) (is_device refused.error)) }
+    {
         match read_log(alloc, &mut disk) {
-            Ok(Found { gate, spans }) => Ok(Log {
-                alloc,
-                disk,
-                gate,
-                spans,
-                failed: false,
-            }),
+            Ok((found, bytes)) => {
+                let log = Log {
+                    alloc,
+                    disk,
+                    gate: found.gate,
+                    spans: found.spans,
+                    failed: false,
+                };
+                Ok(Loaded { log, bytes })
+            }
             Err(error) => Err(Refused { disk, error }),
         }
     }
@@ -124,6 +172,7 @@ impl<D: Disk> Log<D> {
         ensures known { self.new.spans.items ≡ self.old.spans.items }
         ensures failed { self.new.failed ≡ (self.old.failed || says_device result) }
         ensures only { IfErr result IsOutside }
+        ensures stays { D.stays self.old.disk self.new.disk }
         ensures cause { IsCaused (D.faults self.old.disk) (D.faults self.new.disk) (says_device result) }
         ensures sure { KeepsSure (D.is_sure self.old.disk) (D.is_sure self.new.disk) (says_device result) }
     {
@@ -155,6 +204,7 @@ impl<D: Disk> Log<D> {
         ensures count { OnOk result (vec_len self.new.spans ≡ vec_len self.old.spans + 1) }
         ensures known { OnErr result (self.new.spans.items ≡ self.old.spans.items) }
         ensures only { IfErr result IsOutside }
+        ensures stays { D.stays self.old.disk self.new.disk }
         ensures cause { IsCaused (D.faults self.old.disk) (D.faults self.new.disk) (says_device result) }
         ensures sure { KeepsSure (D.is_sure self.old.disk) (D.is_sure self.new.disk) (says_device result) }
     {
@@ -199,6 +249,62 @@ impl<D: Disk> Log<D> {
     }
 }
 
+impl<D: Disk> Loaded<D> {
+    /// How many entries the file has.
+    pub fn count(&self) -> u64
+        ensures { result ≡ length (entries_of self.now.bytes.items) }
+    {
+        self.log.spans.len() as u64
+    }
+
+    /// The bytes of an entry.
+    pub fn entry(&self, i: u64) -> &[u8]
+        requires { i < length (entries_of self.now.bytes.items) }
+        ensures { slice_get (entries_of self.now.bytes.items) i ≡ Some result.now }
+    {
+        let (at, len) = self.log.spans[i as usize];
+        piece(self.bytes.as_slice(), at as usize, len as usize)
+    }
+
+    /// The log.
+    pub fn into_log(self) -> Log<D>
+        ensures log { result ≡ self.log }
+        ensures count { vec_len result.spans ≡ length (entries_of self.bytes.items) }
+    {
+        self.log
+    }
+}
+
+impl<D: Disk> Log<Lane<D>> {
+    /// Writes another log into the other lane of the file, and goes over to it.
+    pub fn rewrite(&mut self, log: Spelled) -> Result<(), LogError>
+        requires working { self.old.failed ≡ false }
+        requires head { Now (D.history self.old.disk.disk) (λ now. EachImage now (IsHead self.old.disk.lane)) }
+        ensures durable { OnOk result (Now (D.history self.new.disk.disk) (λ now. EachImage now (IsLiveLog (entries_of log.bytes.items)))) }
+        // At each moment of the call each image has the old log or the new one.
+        ensures any_moment { Through (D.history self.old.disk.disk) (D.history self.new.disk.disk) (IsLiveEither (entries_now (lane_history self.old.disk.lane (D.history self.old.disk.disk))) (entries_of log.bytes.items)) }
+        ensures head { self.new.failed ≡ false → Now (D.history self.new.disk.disk) (λ now. EachImage now (IsHead self.new.disk.lane)) }
+        ensures unless_failed { OnErr result (self.new.failed ≡ false → entries_now (lane_history self.new.disk.lane (D.history self.new.disk.disk)) ≡ entries_now (lane_history self.old.disk.lane (D.history self.old.disk.disk))) }
+        ensures failed { self.new.failed ≡ says_device result }
+        ensures only { IfErr result IsOutside }
+        ensures cause { IsCaused (D.faults self.old.disk.disk) (D.faults self.new.disk.disk) (says_device result) }
+        ensures sure { KeepsSure (D.is_sure self.old.disk.disk) (D.is_sure self.new.disk.disk) (says_device result) }
+    {
+        match self.disk.replace(log.bytes.as_slice()) {
+            Ok(()) => {
+                self.gate = log.bytes.len() as u64 - 1;
+                self.spans = log.spans;
+                Ok(())
+            }
+            Err(DiskFault::Device) => {
+                self.failed = true;
+                Err(LogError::Device)
+            }
+            Err(DiskFault::NoMemory) => Err(LogError::NoMemory),
+        }
+    }
+}
+
 impl Log<MemDisk> {
     ghost use Rattle.disk_model.specs.Told.{moments_of};
 
@@ -222,6 +328,38 @@ impl Log<MemDisk> {
         ensures stop { self.new.disk.failures.stop ≡ Some calls }
         ensures faults { self.new.disk.failures.count ≡ self.old.disk.failures.count }
         ensures moments { moments_of self.new.disk ≡ moments_of self.old.disk }
+        ensures known { self.new.spans.items ≡ self.old.spans.items }
+        ensures failed { self.new.failed ≡ self.old.failed }
+    {
+        self.disk.stop_after(calls);
+    }
+}
+
+impl Log<Lane<MemDisk>> {
+    ghost use Rattle.disk_model.specs.Told.{moments_of};
+
+    /// The n-th call of the file's disk from now fails without effect.
+    pub fn fail_at(&mut self, n: u64) -> Result<(), NoMemory>
+        requires { 1 ≤ n }
+        ensures named { OnOk result (self.new.disk.disk.failures.failing.items ≡ self.old.disk.disk.failures.failing.items ++ n ∷ []) }
+        ensures err { OnErr result (self.new.disk.disk.failures.failing.items ≡ self.old.disk.disk.failures.failing.items) }
+        ensures stop { self.new.disk.disk.failures.stop ≡ self.old.disk.disk.failures.stop }
+        ensures faults { self.new.disk.disk.failures.count ≡ self.old.disk.disk.failures.count }
+        ensures moments { moments_of self.new.disk.disk ≡ moments_of self.old.disk.disk }
+        ensures lane { self.new.disk.lane ≡ self.old.disk.lane }
+        ensures known { self.new.spans.items ≡ self.old.spans.items }
+        ensures failed { self.new.failed ≡ self.old.failed }
+    {
+        self.disk.fail_at(n)
+    }
+
+    /// After so many further calls of the file's disk each call fails without effect, until a crash.
+    pub fn stop_after(&mut self, calls: u64)
+        ensures failing { self.new.disk.disk.failures.failing.items ≡ self.old.disk.disk.failures.failing.items }
+        ensures stop { self.new.disk.disk.failures.stop ≡ Some calls }
+        ensures faults { self.new.disk.disk.failures.count ≡ self.old.disk.disk.failures.count }
+        ensures moments { moments_of self.new.disk.disk ≡ moments_of self.old.disk.disk }
+        ensures lane { self.new.disk.lane ≡ self.old.disk.lane }
         ensures known { self.new.spans.items ≡ self.old.spans.items }
         ensures failed { self.new.failed ≡ self.old.failed }
     {

@@ -2,7 +2,7 @@ ghost use Rattle.std.specs.Prelude.{◌≡◌, ◌+◌, ◌-◌, ◌≤◌, ◌<
 ghost use Rattle.disk_model.specs.declared.disk.DiskFault.TheVariants.{Device, NoMemory};
 ghost use Rattle.disk_model.specs.Disk.{Now, IsImage, written, is_dirty, IsWriting, IsCutting, IsSynced, Goes, clean};
 ghost use Rattle.disk_model.specs.Faults.{HasCause, StaysSure};
-ghost use Rattle.disk_model.specs.Failures.{is_due, is_unharmed, is_device, IsCounted};
+ghost use Rattle.disk_model.specs.Failures.{is_due, is_unharmed, is_disk_failure, IsCounted};
 ghost use Rattle.disk_model.specs.Memory.{Covers, dirty_from, synced_from, now_from, history_from, after_write, after_cut, crash_image, image_byte, image_length};
 
 use crate::disk::{Disk, DiskFault};
@@ -199,12 +199,22 @@ impl Disk for MemDisk {
 
     ghost is_sure = { λ disk. is_unharmed disk.failures };
 
+    ghost stays = { λ _ _. Unit {0} };
+
     ghost reads_image = { λ disk. disk.reads };
+
+    ghost stays_none = { λ _. tt };
+
+    ghost stays_trans = { λ _ _ _ _ _. tt };
+
+    fn known_len(&self) -> Option<u64> {
+        Some(self.content.len() as u64)
+    }
 
     fn len(&mut self) -> Result<u64, DiskFault>
         ensures len { IfOk result (λ n. n ≡ length (now_of self.old).seen) }
         ensures same { moments_of self.new ≡ moments_of self.old }
-        ensures due { is_device result ≡ is_due self.old.failures }
+        ensures due { is_disk_failure result ≡ is_due self.old.failures }
         ensures counted { IsCounted self.old.failures self.new.failures }
         ensures cause { HasCause self.old.failures.count self.new.failures.count result }
         ensures sure { StaysSure (is_unharmed self.old.failures) (is_unharmed self.new.failures) result }
@@ -220,7 +230,7 @@ impl Disk for MemDisk {
         requires { at + length out.old ≤ length (now_of self.old).seen }
         ensures bytes { OnOk result (out.new ≡ take (length out.old) (drop at (now_of self.old).seen)) }
         ensures same { moments_of self.new ≡ moments_of self.old }
-        ensures due { is_device result ≡ is_due self.old.failures }
+        ensures due { is_disk_failure result ≡ is_due self.old.failures }
         ensures counted { IsCounted self.old.failures self.new.failures }
         ensures cause { HasCause self.old.failures.count self.new.failures.count result }
         ensures sure { StaysSure (is_unharmed self.old.failures) (is_unharmed self.new.failures) result }
@@ -240,11 +250,11 @@ impl Disk for MemDisk {
         ensures moments { Goes (IsWriting at (length bytes.now)) (moments_of self.old) (moments_of self.new) }
         ensures exactly { OnOk result (moments_of self.new ≡ after_write at bytes.now (now_of self.old) ∷ moments_of self.old) }
         ensures error { OnErr result (moments_of self.new ≡ moments_of self.old) }
-        ensures due { is_device result ≡ is_due self.old.failures }
+        ensures due { is_disk_failure result ≡ is_due self.old.failures }
         ensures counted { IsCounted self.old.failures self.new.failures }
         ensures cause { HasCause self.old.failures.count self.new.failures.count result }
         ensures sure { StaysSure (is_unharmed self.old.failures) (is_unharmed self.new.failures) result }
-        ensures memory { IsErrOf result DiskFault.NoMemory → moments_of self.new ≡ moments_of self.old }
+        ensures memory { IsErrOf result DiskFault.NoMemory → Goes (IsWriting at (length bytes.now - 1)) (moments_of self.old) (moments_of self.new) }
     {
         if self.failures.falls_due() {
             return Err(DiskFault::Device);
@@ -270,7 +280,7 @@ impl Disk for MemDisk {
         ensures moments { Goes (IsCutting len) (moments_of self.old) (moments_of self.new) }
         ensures exactly { OnOk result (moments_of self.new ≡ after_cut len (now_of self.old) ∷ moments_of self.old) }
         ensures error { OnErr result (moments_of self.new ≡ moments_of self.old) }
-        ensures due { is_device result ≡ is_due self.old.failures }
+        ensures due { is_disk_failure result ≡ is_due self.old.failures }
         ensures counted { IsCounted self.old.failures self.new.failures }
         ensures cause { HasCause self.old.failures.count self.new.failures.count result }
         ensures sure { StaysSure (is_unharmed self.old.failures) (is_unharmed self.new.failures) result }
@@ -294,7 +304,7 @@ impl Disk for MemDisk {
         ensures synced { OnOk result (now_of self.new ≡ clean (now_of self.old).seen) }
         ensures moments { Goes IsSynced (moments_of self.old) (moments_of self.new) }
         ensures error { OnErr result (moments_of self.new ≡ moments_of self.old) }
-        ensures due { is_device result ≡ is_due self.old.failures }
+        ensures due { is_disk_failure result ≡ is_due self.old.failures }
         ensures counted { IsCounted self.old.failures self.new.failures }
         ensures cause { HasCause self.old.failures.count self.new.failures.count result }
         ensures sure { StaysSure (is_unharmed self.old.failures) (is_unharmed self.new.failures) result }

@@ -1,5 +1,5 @@
 ghost use Rattle.std.specs.Prelude.{◌≡◌, ◌≤◌, [], false, vec_len};
-ghost use Rattle.disk_model.specs.Faults.{Rose};
+ghost use Rattle.salus_types.specs.Outcome.{Rose};
 
 use disk_model::{Disk, DiskFault};
 use std::alloc::AllocError;
@@ -45,7 +45,17 @@ impl Disk for SilentDisk {
 
     ghost is_sure = { λ disk. false };
 
+    ghost stays = { λ old new. Unit {0} };
+
     ghost reads_image = { λ disk. tt };
+
+    ghost stays_none = { λ disk. tt };
+
+    ghost stays_trans = { λ a b c first second. tt };
+
+    fn known_len(&self) -> Option<u64> {
+        None
+    }
 
     fn len(&mut self) -> Result<u64, DiskFault> {
         Ok(self.content.len() as u64)

@@ -1,94 +1,168 @@
 -- The lines due in a run are a legal history of one array.
-use Rattle.std.proofs.Common.{◌≡◌, ℕ, ◌+◌, ◌<◌, List, [], ◌∷◌, ◌++◌, Some, sym, subst, arith}
-use Rattle.std.proofs.lemmas.Bool.{cond_both, MatchBool-at_true, MatchBool-at_false}
-use Rattle.salus_model.specs.declared.schedule.Volume.{Volume}
-use Rattle.salus_model.specs.declared.schedule.Event.{Event}
-use Rattle.salus_model.specs.declared.schedule.Event.TheVariants as event
-use Rattle.salus_model.specs.declared.message.Sent.{Sent}
-use Rattle.salus_model.specs.declared.line.Line.{Line}
-use Rattle.salus_model.specs.declared.line.Line.TheVariants as line
+use Rattle.std.proofs.Common.{◌≡◌, ℕ, ◌+◌, ◌<◌, Bool, true, false, if◌then◌else◌, List, [], ◌∷◌, ◌++◌, reverse, Some, refl, ap, sym, subst, arith}
+use Rattle.std.specs.Prelude.{flat_map}
+use Rattle.std.proofs.lemmas.Bool.{false≢true}
+use Rattle.merkle_region.specs.Tree.{NoTwoCollide}
+use Rattle.schedule_text.specs.declared.schedule.Volume.{Volume}
+use Rattle.schedule_text.specs.declared.schedule.Event.{Event}
+use Rattle.schedule_text.specs.Grammar.{RisesFrom, sessions_of}
+use Rattle.printed_lines.specs.declared.line.Line.{Line}
 use Rattle.salus_model.specs.declared.trace.TraceStep.{TraceStep}
-use Rattle.salus_model.specs.Judge.{Judge, start_judge, event_at, judged, judged_all, IsLegalFrom, IsLegalHistory}
-use Rattle.salus_model.specs.Following.{is_skipped, IsStepOf, FollowsFrom, Follows}
-use Rattle.salus_model.specs.Due.{received, due_lines, skip_line, due_from, lines_due}
-use Rattle.salus_model.specs.Seen.{NoCollision}
-use Rattle.law_history.proofs.Shown.{NoneFrom, none_now, none_after, none_later}
-use Rattle.law_history.proofs.Standing.{StandsFrom, stands_first, stands_here, stands_rest}
-use Rattle.law_history.proofs.Asking.{AsksRight, asks_nothing, asks_received}
-use Rattle.law_history.proofs.Sound.{IsSound}
-use Rattle.law_history.proofs.Arriving.{sound_step}
+use Rattle.salus_model.specs.Judge.{Judge, start_judge, event_at, IsLegalLine, IsKeptLine, KeepsAcknowledged, AlongLines, LegalHistory}
+use Rattle.salus_model.specs.Following.{Posted, sent_by, is_skipped, IsEventDone, dropped_after, FollowsFrom, Follows}
+use Rattle.salus_model.specs.Hearing.{Past, since, phase_of}
+use Rattle.salus_model.specs.Waiting.{all_taken}
+use Rattle.salus_model.specs.Due.{skip_line, lines_from, lines_due, history_from}
+use Rattle.salus_model.specs.Seen.{strings_of}
+use Rattle.law_history.proofs.Steps.{NoStepCollides}
+use Rattle.law_history.specs.Showing.{HeldWasTagged}
+use Rattle.law_history.specs.Keeping.{KeepsChoiceFrom}
+use Rattle.law_history.specs.Choosing.{ChoosesRightFrom, ChoseRight}
+use Rattle.law_history.proofs.Fairly.{along_joined}
+use Rattle.law_history.proofs.Joined.{good_none}
+use Rattle.law_history.proofs.Starting.{start_settled}
+use Rattle.law_history.proofs.Standing.{IsStanding, grows_still}
+use Rattle.law_history.proofs.Events.{done_steps, at_event, from_event}
+use Rattle.law_history.proofs.Placed.{StandsFrom, stands_first, stands_here, stands_rest}
+use Rattle.law_history.proofs.Runs.{pasts, after, judge_at, Legal, AllTagged, IsShown, IsRun, event_run, chooses_append, keeps_front, keeps_back, tagged_always, tagged_here, tagged_rest}
+use Rattle.law_history.proofs.Shown.{seen_later}
+use Rattle.law_history.proofs.Split.{skip_legal, after_append, lines_split}
 
--- lines that meet their rules, and others that do so after them
-legal_joined : (volume : Volume) (events : List Event) (judge : Judge) (lines rest : List Line)
-    → IsLegalFrom volume events judge lines → IsLegalFrom volume events (judged_all events judge lines) rest → IsLegalFrom volume events judge (lines ++ rest)
-unfolding IsLegalFrom judged_all
-legal_joined volume events judge [] rest front back = back
-legal_joined volume events judge (l ∷ lines) rest front back = (front.0, legal_joined volume events (judged events judge l) lines rest front.1 back)
+module _ (volume : Volume) (events : List Event) (strings : List (List ℕ)) (none : NoTwoCollide strings) (posts : List Posted) where
+  abbrev here_pasts : List Past → List TraceStep → List Past
+  here_pasts = pasts volume events strings none posts
 
-module _ (volume : Volume) (events : List Event) (sent : List Sent) where
-  -- a skipped event has no line, or a free one
-  skipped : (judge : Judge) (n : ℕ) (e : Event) (rest : List Line) (steps : List TraceStep)
-      → (NoneFrom volume events sent judge rest steps → IsLegalFrom volume events judge rest)
-      → NoneFrom volume events sent judge (skip_line n e ++ rest) steps → IsLegalFrom volume events judge (skip_line n e ++ rest)
-  unfolding IsLegalFrom judged_all
-  skipped judge n (event.Write block bytes) rest steps lower none = lower none
-  skipped judge n (event.Read block) rest steps lower none = lower none
-  skipped judge n (event.Deliver k) rest steps lower none =
-      (tt, lower (none_after volume events sent judge (line.Skip n k ∷ []) rest steps none))
-  skipped judge n (event.Lie bytes) rest steps lower none = lower none
+  abbrev here_after : List Past → List TraceStep → List Past
+  here_after = after volume events strings none posts
 
-  -- what the induction goes over: from event number n on, the lines that are due meet their rules
+  abbrev judge_then : List Past → Judge
+  judge_then = judge_at volume events strings none posts
+
+  abbrev AreTagged : List Past → List TraceStep → Type 0
+  AreTagged = AllTagged volume events strings none posts
+
+  abbrev AreShown : List Past → Type 0
+  AreShown = IsShown volume events strings none posts
+
+  abbrev AreLegal : Judge → List Line → Type 0
+  AreLegal = Legal volume events strings none posts
+
+  -- the lines are legal, and at each step what is recovered are the contents
+  pub record IsRight (history : List Past) (steps : List TraceStep) (lines : List Line) : Type 0 where
+    pub legal : AreLegal (judge_then history) lines
+    pub chooses : ChoosesRightFrom volume events posts history steps
+    pub keeps : KeepsChoiceFrom volume events posts history steps → AlongLines IsKeptLine events (judge_then history) lines
+
+  -- what the induction goes over: from event number n on, the lines that are due are legal
   abbrev LegalRest : ℕ → List Event → Type 0
-  LegalRest n rest = (inbox : List TraceStep) (judge : Judge) (posted : ℕ) (steps : List TraceStep)
-      → FollowsFrom sent posted n rest steps → judge.latest < n → AsksRight volume events inbox
-      → NoneFrom volume events sent judge (due_from volume events sent inbox judge posted n rest steps) steps
-      → IsLegalFrom volume events judge (due_from volume events sent inbox judge posted n rest steps)
+  LegalRest n es = (top : ℕ) (history : List Past) (earlier : List TraceStep) (dropped : List ℕ) (steps : List TraceStep)
+      → FollowsFrom posts earlier dropped n es steps → RisesFrom top (sessions_of es) → IsStanding volume events strings n top history (judge_then history)
+      → AreTagged history steps → AreShown (here_after history steps)
+      → IsRight history steps (lines_from volume events posts (sent_by earlier) n es (here_pasts history steps))
 
-  -- an event with its step
-  handled : (n : ℕ) (e : Event) (rest : List Event) → event_at events n ≡ Some e → LegalRest (n + 1) rest
-      → (inbox : List TraceStep) (judge : Judge) (posted : ℕ) (step : TraceStep) (steps : List TraceStep)
-      → IsStepOf sent n posted e step → FollowsFrom sent step.sent (n + 1) rest steps → judge.latest < n → AsksRight volume events inbox
-      → NoneFrom volume events sent judge
-      (due_lines volume sent inbox judge step ++ due_from volume events sent (received inbox step) (judged_all events judge (due_lines volume sent inbox judge step)) step.sent (n + 1) rest steps)
-      (step ∷ steps)
-      → IsLegalFrom volume events judge
-      (due_lines volume sent inbox judge step ++ due_from volume events sent (received inbox step) (judged_all events judge (due_lines volume sent inbox judge step)) step.sent (n + 1) rest steps)
-  handled n e rest here lower inbox judge posted step steps is follows low asks none =
-      let lines : List Line = due_lines volume sent inbox judge step in
-      let after : List Line = due_from volume events sent (received inbox step) (judged_all events judge (due_lines volume sent inbox judge step)) step.sent (n + 1) rest steps in
-      let place : event_at events step.event ≡ Some e = subst (λ v. event_at events v ≡ Some e) (sym is.number) here in
-      let early : judge.latest < step.event = subst (λ v. judge.latest < v) (sym is.number) low in
-      let sound : IsSound volume events judge n lines = subst (λ v. IsSound volume events judge v lines) is.number
-      (sound_step volume events sent inbox judge e step early asks place is.handing
-      (none_now volume events sent judge (lines ++ after) step steps none)) in
-      legal_joined volume events judge lines after sound.legal
-      (lower (received inbox step) (judged_all events judge lines) step.sent steps follows sound.latest
-      (asks_received volume events sent inbox e step place is.handing asks)
-      (none_later volume events sent judge lines after step steps none))
+  -- a skipped event, or one with its steps; then the others
+  legal_one : (skips : Bool) (n : ℕ) (e : Event) (earlier : List TraceStep) (dropped : List ℕ) (history : List Past) (here : List TraceStep) (tail : List Line) (top : ℕ)
+      → IsEventDone skips posts earlier dropped n e here → IsRun volume events strings none posts (n + 1) top history here
+      → AreLegal (judge_then (here_after history here)) tail
+      → AreLegal (judge_then history) ((if skips then skip_line n e else flat_map (λ p. p.lines) (here_pasts history here)) ++ tail)
+  unfolding history_from
+  legal_one true n e earlier dropped history here tail top done run legal =
+      let same : here_after history here ≡ history = ap (here_after history) done in
+      skip_legal (IsLegalLine volume.geometry events) events (λ judge i k. tt) (judge_then history) n e tail
+      (subst (λ h. AreLegal (judge_then h) tail) same legal)
+  legal_one false n e earlier dropped history here tail top done run legal =
+      along_joined (IsLegalLine volume.geometry events) events (judge_then history) (flat_map (λ p. p.lines) (here_pasts history here)) tail run.legal
+      (subst (λ j. AreLegal j tail) (sym run.judged) legal)
 
-  legal_from : (rest : List Event) (n : ℕ) → StandsFrom events n rest → LegalRest n rest
-  unfolding due_from FollowsFrom IsLegalFrom
-  legal_from [] n stands inbox judge posted steps follows low asks none = tt
-  legal_from (e ∷ rest) n stands inbox judge posted [] follows low asks none =
-      skipped judge n e (due_from volume events sent inbox judge posted (n + 1) rest []) []
-      (λ left. legal_from rest (n + 1) (stands_rest events n e rest stands) inbox judge posted [] follows.1 (omega arith) asks left) none
-  legal_from (e ∷ rest) n stands inbox judge posted (step ∷ steps) follows low asks none =
-      cond_both {A = List Line} (is_skipped posted e)
-      (skip_line n e ++ due_from volume events sent inbox judge posted (n + 1) rest (step ∷ steps))
-      (due_lines volume sent inbox judge step
-      ++ due_from volume events sent (received inbox step) (judged_all events judge (due_lines volume sent inbox judge step)) step.sent (n + 1) rest steps)
-      (λ lines. NoneFrom volume events sent judge lines (step ∷ steps) → IsLegalFrom volume events judge lines)
-      (λ t whole. skipped judge n e (due_from volume events sent inbox judge posted (n + 1) rest (step ∷ steps)) (step ∷ steps)
-      (λ left. legal_from rest (n + 1) (stands_rest events n e rest stands) inbox judge posted (step ∷ steps)
-      (MatchBool-at_true _ _ t follows) (omega arith) asks left) whole)
-      (λ t whole.
-      let taken = MatchBool-at_false
-      (FollowsFrom sent posted (n + 1) rest (step ∷ steps)) (IsStepOf sent n posted e step × FollowsFrom sent step.sent (n + 1) rest steps) t follows in
-      handled n e rest (stands_here events n e rest stands) (legal_from rest (n + 1) (stands_rest events n e rest stands))
-      inbox judge posted step steps taken.0 taken.1 low asks whole)
-      none
+  keeps_one : (skips : Bool) (n : ℕ) (e : Event) (earlier : List TraceStep) (dropped : List ℕ) (history : List Past) (here : List TraceStep) (tail : List Line) (top : ℕ)
+      → IsEventDone skips posts earlier dropped n e here → (run : IsRun volume events strings none posts (n + 1) top history here) → KeepsChoiceFrom volume events posts history here
+      → AlongLines IsKeptLine events (judge_then (here_after history here)) tail
+      → AlongLines IsKeptLine events (judge_then history) ((if skips then skip_line n e else flat_map (λ p. p.lines) (here_pasts history here)) ++ tail)
+  unfolding history_from
+  keeps_one true n e earlier dropped history here tail top done run keeps kept =
+      let same : here_after history here ≡ history = ap (here_after history) done in
+      skip_legal IsKeptLine events (λ judge i k. tt) (judge_then history) n e tail
+      (subst (λ h. AlongLines IsKeptLine events (judge_then h) tail) same kept)
+  keeps_one false n e earlier dropped history here tail top done run keeps kept =
+      along_joined IsKeptLine events (judge_then history) (flat_map (λ p. p.lines) (here_pasts history here)) tail (run.keeps keeps)
+      (subst (λ j. AlongLines IsKeptLine events j tail) (sym run.judged) kept)
 
-pub legal : (volume : Volume) (events : List Event) (sent : List Sent) (trace : List TraceStep)
-    → Follows events sent trace → NoCollision volume events sent trace → IsLegalHistory volume events (lines_due volume events sent trace)
-legal volume events sent trace follows none =
-    legal_from volume events sent events 1 (stands_first events) [] start_judge 0 trace follows (omega arith) (asks_nothing volume events) none
+  legal_event : (n : ℕ) (e : Event) (es : List Event) → 0 < n → event_at events n ≡ Some e → LegalRest (n + 1) es
+      → (top : ℕ) (history : List Past) (earlier : List TraceStep) (dropped : List ℕ) (here rest : List TraceStep)
+      → IsEventDone (is_skipped posts (sent_by earlier) e) posts earlier dropped n e here
+      → FollowsFrom posts (reverse here ++ earlier) (dropped_after (sent_by earlier) dropped e) (n + 1) es rest
+      → RisesFrom top (sessions_of (e ∷ es)) → IsStanding volume events strings n top history (judge_then history)
+      → AreTagged history (here ++ rest) → AreShown (here_after history (here ++ rest))
+      → IsRight history (here ++ rest) (lines_from volume events posts (sent_by earlier) n (e ∷ es) (here_pasts history (here ++ rest)))
+  legal_event n e es positive place lower top history earlier dropped here rest done follows rises standing tagged shown =
+      let either = done_steps posts (is_skipped posts (sent_by earlier) e) earlier dropped n e here done in
+      let shown_rest : AreShown (here_after (here_after history here) rest) = subst AreShown (after_append volume events posts here rest history) shown in
+      let shown_here : AreShown (here_after history here) = λ x m. shown_rest x (seen_later volume events posts rest (here_after history here) x m) in
+      let run = event_run volume events strings none posts n top history e es here positive standing place rises either
+      (tagged_here volume events strings none posts here rest history tagged) shown_here in
+      let tail = lower run.0 (here_after history here) (reverse here ++ earlier) (dropped_after (sent_by earlier) dropped e) rest follows run.2 run.1.standing
+      (tagged_rest volume events strings none posts here rest history tagged) shown_rest in
+      let split = lines_split volume events posts n e es here rest earlier history (at_event posts n e here either)
+      (λ t m. (let above = from_event posts es (reverse here ++ earlier) (dropped_after (sent_by earlier) dropped e) (n + 1) rest follows t m in omega arith)) in
+      record {
+        legal = subst (AreLegal (judge_then history)) (sym split) (legal_one (is_skipped posts (sent_by earlier) e) n e earlier dropped history here _ run.0 done run.1 tail.legal);
+        chooses = chooses_append volume events strings none posts here rest history run.1.chooses tail.chooses;
+        keeps = λ k. subst (AlongLines IsKeptLine events (judge_then history)) (sym split)
+            (keeps_one (is_skipped posts (sent_by earlier) e) n e earlier dropped history here _ run.0 done run.1 (keeps_front volume events strings none posts here rest history k)
+            (tail.keeps (keeps_back volume events strings none posts here rest history k)));
+      }
+
+  chooses_none : (history : List Past) → ChoosesRightFrom volume events posts history []
+  unfolding ChoosesRightFrom
+  chooses_none history = tt
+
+  legal_from : (es : List Event) (n : ℕ) → 0 < n → StandsFrom events n es → LegalRest n es
+  unfolding FollowsFrom lines_from AlongLines
+  legal_from [] n positive stands top history earlier dropped steps follows rises standing tagged shown =
+      record { legal = tt; chooses = subst (ChoosesRightFrom volume events posts history) (sym follows.0) (chooses_none history); keeps = λ k. tt }
+  legal_from (e ∷ es) n positive stands top history earlier dropped steps follows rises standing tagged shown =
+      subst (λ s. AreTagged history s → AreShown (here_after history s)
+      → IsRight history s (lines_from volume events posts (sent_by earlier) n (e ∷ es) (here_pasts history s)))
+      (sym follows.2)
+      (legal_event n e es positive (stands_here events n e es stands) (legal_from es (n + 1) (omega arith) (stands_rest events n e es stands))
+      top history earlier dropped follows.0 follows.1 follows.3 follows.4 rises standing)
+      tagged shown
+
+-- ---- at first
+
+chose_none : (volume : Volume) → ChoseRight volume []
+unfolding ChoseRight
+chose_none volume = tt
+
+start_standing : (volume : Volume) (events : List Event) (strings : List (List ℕ)) → IsStanding volume events strings 1 1 [] (start_judge volume.geometry)
+unfolding all_taken since phase_of
+start_standing volume events strings = record {
+  is = refl;
+  settled = start_settled volume.geometry;
+  phase = tt;
+  good = good_none volume.geometry events 1;
+  kept = record { late = λ r among. absurd among; low = omega arith; answered = λ v among. absurd (false≢true among); acked = omega arith };
+  heard = λ p among. absurd among;
+  reached = record { first = grows_still volume events strings (start_judge volume.geometry) (start_judge volume.geometry) refl; each = λ q among. absurd among; chose = chose_none volume };
+}
+
+-- what has to be supplied at each step
+abbrev pub Supplies : (volume : Volume) (events : List Event) (posts : List Posted) (trace : List TraceStep) → NoStepCollides volume events posts trace → Type 0
+Supplies volume events posts trace none = AllTagged volume events (strings_of volume.geometry (history_from volume events posts [] trace)) none posts [] trace
+
+pub supplied : (volume : Volume) (events : List Event) (posts : List Posted) (trace : List TraceStep) → RisesFrom 1 (sessions_of events)
+    → Follows events posts trace → (none : NoStepCollides volume events posts trace) → Supplies volume events posts trace none
+    → LegalHistory volume.geometry events (lines_due volume events posts trace) × ChoosesRightFrom volume events posts [] trace
+    × (KeepsChoiceFrom volume events posts [] trace → KeepsAcknowledged volume.geometry events (lines_due volume events posts trace))
+supplied volume events posts trace rises follows none tagged =
+    let right = legal_from volume events (strings_of volume.geometry (history_from volume events posts [] trace)) none posts events 1 (omega arith) (stands_first events)
+    1 [] [] [] trace follows rises (start_standing volume events (strings_of volume.geometry (history_from volume events posts [] trace))) tagged (λ x m. m) in
+    (right.legal, right.chooses, right.keeps)
+
+pub legal : (volume : Volume) (events : List Event) (posts : List Posted) (trace : List TraceStep) → RisesFrom 1 (sessions_of events)
+    → Follows events posts trace → NoStepCollides volume events posts trace → HeldWasTagged volume events posts trace
+    → LegalHistory volume.geometry events (lines_due volume events posts trace) × ChoosesRightFrom volume events posts [] trace
+    × (KeepsChoiceFrom volume events posts [] trace → KeepsAcknowledged volume.geometry events (lines_due volume events posts trace))
+legal volume events posts trace rises follows none tagged =
+    supplied volume events posts trace rises follows none
+    (tagged_always volume events (strings_of volume.geometry (history_from volume events posts [] trace)) none posts trace [] tagged)

@@ -1,1 +1,4 @@
--- This crate has no definitions of its own.
+pub mod Showing
+pub mod Handing
+pub mod Choosing
+pub mod Keeping

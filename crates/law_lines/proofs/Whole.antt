@@ -1,202 +1,100 @@
 -- The lines of a whole run.
-use Rattle.std.proofs.Common.{◌≡◌, ℕ, ◌+◌, ◌-◌, Bool, true, false, ◌∙◌, not, nat_lt, if◌then◌else◌, List, [], ◌∷◌, ◌++◌, length, slice_get, Option, None, Some, refl, ap, sym, subst, arith, append_assoc, length-append, lt-ltb}
-use Rattle.salus_types.specs.declared.names.Sender.{Sender}
-use Rattle.salus_types.specs.declared.names.Sender.TheVariants as sender
-use Rattle.salus_model.specs.declared.schedule.Volume.{Volume}
-use Rattle.salus_model.specs.declared.schedule.Event.{Event}
-use Rattle.salus_model.specs.declared.schedule.Event.TheVariants as event
-use Rattle.salus_model.specs.declared.message.Sent.{Sent}
-use Rattle.salus_model.specs.declared.line.Line.{Line}
-use Rattle.salus_model.specs.declared.line.Line.TheVariants as line
-use Rattle.salus_model.specs.declared.trace.Request.{Request}
+use Rattle.std.proofs.Common.{◌≡◌, ℕ, ◌^◌, ◌≤◌, Bool, cond, if◌then◌else◌, List, [], ◌∷◌, ◌++◌, map, refl, ap₂, sym, subst, arith}
+use Rattle.std.specs.Prelude.{filter}
+use Rattle.schedule_text.specs.declared.schedule.Volume.{Volume}
+use Rattle.schedule_text.specs.declared.schedule.Event.{Event}
 use Rattle.salus_model.specs.declared.trace.Request.TheVariants as request
-use Rattle.salus_model.specs.declared.trace.Handed.{Handed}
-use Rattle.salus_model.specs.declared.trace.Handed.TheVariants as handed
 use Rattle.salus_model.specs.declared.trace.TraceStep.{TraceStep}
-use Rattle.salus_model.specs.Answering.{answer_of}
-use Rattle.salus_model.specs.Following.{is_skipped, message_at}
-use Rattle.salus_model.specs.Judge.{Judge, event_at, judged_all, start_judge}
-use Rattle.salus_model.specs.Contents.{fold_batches}
-use Rattle.salus_model.specs.Due.{is_client, asked_block, received, due_lines, due_handed, due_request, due_delivery, due_lie, skip_line, due_from, lines_due}
-use Rattle.salus_world.specs.declared.world.World.{World}
-use Rattle.salus_world.specs.Cores.{Told, Served, requested, received_by_client, received_by_server}
-use Rattle.salus_world.specs.Machine.{Stepped, client_stepped, client_steps, server_stepped, step_of, the_server, lied_to, delivered, delivered_steps, stepped, steps_of, new_world, run_world, run_lines, run_trace}
-use Rattle.salus_world.proofs.Growing.{Extends, extends_same, extends_trans, stepped_grows, run_grows}
-use Rattle.law_lines.specs.Mirror.{client_at, Mirrors}
-use Rattle.salus_world.proofs.Choosing.{by_test}
-use Rattle.salus_model.proofs.Arrays.{length-array}
-use Rattle.law_lines.proofs.Rows.{AsDue, mirrors-later}
-use Rattle.law_lines.proofs.Requests.{asking, requested_as_due}
-use Rattle.law_lines.proofs.Deliveries.{received_as_due, lied_as_due}
-use Rattle.salus_world.proofs.Posting.{is_sent-some, is_sent-none, message_at-extends}
+use Rattle.salus_model.specs.Judge.{Judge}
+use Rattle.salus_model.specs.Following.{Posted}
+use Rattle.salus_model.specs.Hearing.{News, Asks, Says, Crashes, Silence, Past, news_of, since, opens, refuses, judge_of}
+use Rattle.salus_model.specs.Waiting.{Taken, joining, taken_in, all_taken, live, left_of}
+use Rattle.salus_model.specs.Due.{past_of, pasts_from}
+use Rattle.client_rules.specs.State as state
+use Rattle.client_rules.specs.Tables.{line_of}
+use Rattle.client_rules.specs.Rules.{told, client_lines}
+use Rattle.law_lines.specs.Mirrors.{Holds}
+use Rattle.law_lines.specs.Ready.{IsScripted, AsksFit, event_after, session_after, AreReady}
+use Rattle.law_lines.proofs.Basics.{by_test}
+use Rattle.law_lines.proofs.Ordered.{left-line}
+use Rattle.law_lines.proofs.Answered.{IsWritten}
+use Rattle.law_lines.proofs.Openings.{HasNodes}
+use Rattle.law_lines.proofs.Anywhere.{step_as_due}
 
--- the event of a number, by the events before it
-get_after : {A : Type 0} (before rest : List A) (x : A) → slice_get (before ++ x ∷ rest) (length before) ≡ Some x
-get_after [] rest x = refl
-get_after (y ∷ before) rest x = get_after before rest x
+-- ---- the writes that were taken are those of their events
 
-event_here : (before rest : List Event) (e : Event) → event_at (before ++ e ∷ rest) (length before + 1) ≡ Some e
-event_here before rest e =
-    let positive : nat_lt 0 (length before + 1) ≡ true = lt-ltb 0 (length before + 1) (omega arith) in
-    let place : length before + 1 - 1 ≡ length before = omega arith in
-    rw (positive, place) (get_after before rest e)
+unfoldable pub AllScripted : List Event → List Taken → Type 0
+AllScripted events [] = Unit {0}
+AllScripted events (r ∷ rs) = IsScripted events r.event r.request × AllScripted events rs
 
-joined : (a b c d : List Line) → a ≡ b → c ≡ d → a ++ c ≡ b ++ d
-joined a b c d front back = ap (λ l. l ++ c) front ∙ ap (λ l. b ++ l) back
+scripted-append : (events : List Event) (xs ys : List Taken) → AllScripted events xs → AllScripted events ys → AllScripted events (xs ++ ys)
+unfolding AllScripted
+scripted-append events [] ys a b = b
+scripted-append events (x ∷ xs) ys a b = (a.0, scripted-append events xs ys a.1 b)
 
-module _ (volume : Volume) (events : List Event) (all : List Sent) where
-  abbrev due_rest : List TraceStep → Judge → ℕ → ℕ → List Event → List TraceStep → List Line
-  due_rest = due_from volume events all
+scripted-filter : (events : List Event) (p : Taken → Bool) (xs : List Taken) → AllScripted events xs → AllScripted events (filter p xs)
+unfolding AllScripted
+scripted-filter events p [] a = tt
+scripted-filter events p (x ∷ xs) a =
+    by_test (λ t. AllScripted events (cond t (x ∷ filter p xs) (filter p xs))) (p x) (λ _. (a.0, scripted-filter events p xs a.1)) (λ _. scripted-filter events p xs a.1)
 
-  due_skipped : (inbox : List TraceStep) (judge : Judge) (posted n : ℕ) (e : Event) (es : List Event) (trace : List TraceStep) → is_skipped posted e ≡ true
-      → due_rest inbox judge posted n (e ∷ es) trace ≡ skip_line n e ++ due_rest inbox judge posted (n + 1) es trace
-  unfolding due_from
-  due_skipped inbox judge posted n e es [] skips = refl
-  due_skipped inbox judge posted n e es (t ∷ trace) skips = rw skips refl
+scripted-back : (events : List Event) (xs ys : List Taken) → AllScripted events (xs ++ ys) → AllScripted events ys
+unfolding AllScripted
+scripted-back events [] ys a = a
+scripted-back events (x ∷ xs) ys a = scripted-back events xs ys a.1
 
-  due_stepped : (inbox : List TraceStep) (judge : Judge) (posted n : ℕ) (e : Event) (es : List Event) (t : TraceStep) (trace : List TraceStep) → is_skipped posted e ≡ false
-      → due_rest inbox judge posted n (e ∷ es) (t ∷ trace)
-      ≡ due_lines volume all inbox judge t ++ due_rest (received inbox t) (judged_all events judge (due_lines volume all inbox judge t)) t.sent (n + 1) es trace
-  unfolding due_from
-  due_stepped inbox judge posted n e es t trace steps = rw steps refl
+scripted-head : (events : List Event) (w : Taken) (rest : List Taken) → AllScripted events (w ∷ rest) → IsWritten events w
+unfolding AllScripted
+scripted-head events w rest a batch is = subst (λ r. IsScripted events w.event r) is a.0
 
-  -- from here on the lines are those due
-  Exact : ℕ → List Event → Type 0
-  Exact n es = (w : World) (inbox : List TraceStep) (judge : Judge) (reads : List (ℕ × ℕ)) → w.client ≡ client_at volume judge reads → Mirrors volume reads inbox judge n
-      → Extends (run_world w n es).sent all → run_lines w n es ≡ due_rest inbox judge (length w.sent) n es (run_trace w n es)
+-- so is the write at the head
+head_written : (events : List Event) (history : List Past) (judge : Judge) → AllScripted events (all_taken (since opens history))
+    → (w : Taken) (behind : List Taken) → line_of (live history judge) ≡ w ∷ behind → IsWritten events w
+unfolding live
+head_written events history judge a w behind is =
+    scripted-head events w behind
+    (subst (AllScripted events) is
+    (scripted-back events (left_of (live history judge)) (line_of (live history judge))
+    (subst (AllScripted events) (sym (left-line (live history judge))) (scripted-filter events _ (all_taken (since opens history)) a))))
 
-  -- after a step of the client that gave the lines due
-  client_exact : (w : World) (inbox : List TraceStep) (judge : Judge) (n : ℕ) (e : Event) (es : List Event) (what : Handed) (told : Told) (due : List Line)
-      → is_skipped (length w.sent) e ≡ false
-      → due_handed volume all inbox judge n what ≡ due
-      → AsDue volume events (step_of w n sender.Client the_server what told.outs ∷ inbox) judge n told due
-      → Extends (run_world (client_stepped w n what told).world (n + 1) es).sent all
-      → Exact (n + 1) es
-      → told.lines ++ run_lines (client_stepped w n what told).world (n + 1) es
-      ≡ due_rest inbox judge (length w.sent) n (e ∷ es) (client_steps w n what told ++ run_trace (client_stepped w n what told).world (n + 1) es)
-  unfolding Exact due_lines
-  client_exact w inbox judge n e es what told due steps lines row ends rest =
-      let t : TraceStep = step_of w n sender.Client the_server what told.outs in
-      let v : World = (client_stepped w n what told).world in
-      let after = rest v (t ∷ inbox) (judged_all events judge due) row.reads row.client row.mirrors ends in
-      joined _ _ _ _ row.same after
-      ∙ sym (due_stepped inbox judge (length w.sent) n e es t (run_trace v (n + 1) es) steps
-      ∙ ap (λ l. l ++ due_rest (t ∷ inbox) (judged_all events judge l) t.sent (n + 1) es (run_trace v (n + 1) es)) lines)
+joined_scripted : (events : List Event) (n m v : ℕ) (x : News) → AsksFit events n m v x → AllScripted events (joining v x)
+unfolding AllScripted
+joined_scripted events n m v (Asks (request.Write batch)) f = (f.3, tt)
+joined_scripted events n m v (Asks (request.Read b)) f = (tt, tt)
+joined_scripted events n m v (Asks request.Barrier) f = (tt, tt)
+joined_scripted events n m v (Asks (request.Restart e)) f = tt
+joined_scripted events n m v (Asks (request.Reassign e g)) f = tt
+joined_scripted events n m v (Says name msg) f = tt
+joined_scripted events n m v Crashes f = tt
+joined_scripted events n m v Silence f = tt
 
-  -- after a step of the server
-  server_exact : (w : World) (inbox : List TraceStep) (judge : Judge) (reads : List (ℕ × ℕ)) (n : ℕ) (e : Event) (es : List Event) (party : Sender) (what : Handed) (served : Served)
-      → is_client party ≡ false
-      → is_skipped (length w.sent) e ≡ false
-      → w.client ≡ client_at volume judge reads → Mirrors volume reads inbox judge n
-      → Extends (run_world (server_stepped w n party what served).world (n + 1) es).sent all
-      → Exact (n + 1) es
-      → run_lines (server_stepped w n party what served).world (n + 1) es
-      ≡ due_rest inbox judge (length w.sent) n (e ∷ es) (step_of w n party sender.Client what served.outs ∷ run_trace (server_stepped w n party what served).world (n + 1) es)
-  unfolding Exact due_lines judged_all
-  server_exact w inbox judge reads n e es party what served other steps client mirrors ends rest =
-      let t : TraceStep = step_of w n party sender.Client what served.outs in
-      let v : World = (server_stepped w n party what served).world in
-      rest v inbox judge reads client (mirrors-later volume reads inbox judge n mirrors) ends
-      ∙ sym (due_stepped inbox judge (length w.sent) n e es t (run_trace v (n + 1) es) steps ∙ rw other refl)
+next_scripted : (events : List Event) (history : List Past) (p : Past) (n m : ℕ) → AsksFit events n m p.step.event p.news → AllScripted events (all_taken (since opens history))
+    → AllScripted events (all_taken (since opens (p ∷ history)))
+unfolding since all_taken AllScripted
+next_scripted events history p n m f a =
+    by_test (λ t. AllScripted events (all_taken (if t then [] else p ∷ since opens history))) (opens p) (λ _. tt)
+    (λ _. scripted-append events (all_taken (since opens history)) (taken_in p) a
+    (by_test (λ t. AllScripted events (if t then [] else joining p.step.event p.news)) (refuses p) (λ _. tt) (λ _. joined_scripted events n m p.step.event p.news f)))
 
-  delivered_exact : (w : World) (inbox : List TraceStep) (judge : Judge) (reads : List (ℕ × ℕ)) (n k : ℕ) (es : List Event) (o : Option Sent)
-      → message_at w.sent k ≡ o
-      → w.client ≡ client_at volume judge reads → Mirrors volume reads inbox judge n
-      → Extends w.sent all
-      → Extends (run_world (delivered w n k o).world (n + 1) es).sent all
-      → Exact (n + 1) es
-      → (delivered w n k o).lines ++ run_lines (delivered w n k o).world (n + 1) es
-      ≡ due_rest inbox judge (length w.sent) n (event.Deliver k ∷ es) (delivered_steps w n k o ++ run_trace (delivered w n k o).world (n + 1) es)
-  unfolding Exact
-  delivered_exact w inbox judge reads n k es None at client mirrors extends ends rest =
-      ap (λ l. line.Skip n k ∷ l) (rest w inbox judge reads client (mirrors-later volume reads inbox judge n mirrors) ends)
-      ∙ sym (due_skipped inbox judge (length w.sent) n (event.Deliver k) es (run_trace w (n + 1) es) (ap not (is_sent-none w.sent k at)))
-  delivered_exact w inbox judge reads n k es (Some m) at client mirrors extends ends rest =
-      let told : Told = received_by_client w.client m.from m.message in
-      let served : Served = received_by_server w.server m.from m.message in
-      let steps : is_skipped (length w.sent) (event.Deliver k) ≡ false = ap not (is_sent-some w.sent k m at) in
-      let t : TraceStep = step_of w n sender.Client the_server (handed.Deliver k) told.outs in
-      let row : AsDue volume events (t ∷ inbox) judge n told (due_delivery volume inbox judge (Some m)) =
-      subst (λ c. AsDue volume events (t ∷ inbox) judge n (received_by_client c m.from m.message) (due_delivery volume inbox judge (Some m)))
-      (sym client) (received_as_due volume events reads inbox judge n t refl mirrors m) in
-      let after : Bool → Stepped = λ b. if b then client_stepped w n (handed.Deliver k) told else server_stepped w n m.to (handed.Deliver k) served in
-      let taken : Bool → List TraceStep = λ b. if b then client_steps w n (handed.Deliver k) told else step_of w n m.to sender.Client (handed.Deliver k) served.outs ∷ [] in
-      by_test (λ b. is_client m.to ≡ b → Extends (run_world (after b).world (n + 1) es).sent all
-      → (after b).lines ++ run_lines (after b).world (n + 1) es
-      ≡ due_rest inbox judge (length w.sent) n (event.Deliver k ∷ es) (taken b ++ run_trace (after b).world (n + 1) es))
-      (is_client m.to)
-      (λ _ _ now. client_exact w inbox judge n (event.Deliver k) es (handed.Deliver k) told (due_delivery volume inbox judge (Some m)) steps
-      (ap (due_delivery volume inbox judge) (message_at-extends w.sent all k m extends at)) row now rest)
-      (λ _ other now. server_exact w inbox judge reads n (event.Deliver k) es m.to (handed.Deliver k) served other steps client mirrors now rest)
-      refl ends
+small_after : (events : List Event) (n m v : ℕ) (x : News) → n ≤ 2 ^ 32 → AsksFit events n m v x → event_after n v x ≤ 2 ^ 32
+small_after events n m v (Asks r) small f = let b = f.1 in omega (arith, b)
+small_after events n m v (Says name msg) small f = small
+small_after events n m v Crashes small f = small
+small_after events n m v Silence small f = small
 
-  requested_exact : (w : World) (inbox : List TraceStep) (judge : Judge) (reads : List (ℕ × ℕ)) (n : ℕ) (r : Request) (e : Event) (es : List Event)
-      → is_skipped (length w.sent) e ≡ false
-      → event_at events n ≡ Some (asking r)
-      → w.client ≡ client_at volume judge reads → Mirrors volume reads inbox judge n
-      → Extends (run_world (client_stepped w n (handed.Asked r) (requested w.client n r)).world (n + 1) es).sent all
-      → Exact (n + 1) es
-      → (requested w.client n r).lines ++ run_lines (client_stepped w n (handed.Asked r) (requested w.client n r)).world (n + 1) es
-      ≡ due_rest inbox judge (length w.sent) n (e ∷ es)
-      (client_steps w n (handed.Asked r) (requested w.client n r) ++ run_trace (client_stepped w n (handed.Asked r) (requested w.client n r)).world (n + 1) es)
-  requested_exact w inbox judge reads n r e es steps at client mirrors ends rest =
-      let t : TraceStep = step_of w n sender.Client the_server (handed.Asked r) (requested w.client n r).outs in
-      client_exact w inbox judge n e es (handed.Asked r) (requested w.client n r) (due_request volume judge n r) steps refl
-      (subst (λ c. AsDue volume events (t ∷ inbox) judge n (requested c n r) (due_request volume judge n r)) (sym client)
-      (requested_as_due volume events reads inbox judge n r t refl refl at mirrors))
-      ends rest
-
-  lied_exact : (w : World) (inbox : List TraceStep) (judge : Judge) (reads : List (ℕ × ℕ)) (n : ℕ) (bytes : List ℕ) (es : List Event)
-      → w.client ≡ client_at volume judge reads → Mirrors volume reads inbox judge n
-      → Extends (run_world (client_stepped w n (handed.Lie bytes) (lied_to w.client (answer_of bytes))).world (n + 1) es).sent all
-      → Exact (n + 1) es
-      → (lied_to w.client (answer_of bytes)).lines ++ run_lines (client_stepped w n (handed.Lie bytes) (lied_to w.client (answer_of bytes))).world (n + 1) es
-      ≡ due_rest inbox judge (length w.sent) n (event.Lie bytes ∷ es)
-      (client_steps w n (handed.Lie bytes) (lied_to w.client (answer_of bytes)) ++ run_trace (client_stepped w n (handed.Lie bytes) (lied_to w.client (answer_of bytes))).world (n + 1) es)
-  lied_exact w inbox judge reads n bytes es client mirrors ends rest =
-      let told : Told = lied_to w.client (answer_of bytes) in
-      let t : TraceStep = step_of w n sender.Client the_server (handed.Lie bytes) told.outs in
-      client_exact w inbox judge n (event.Lie bytes) es (handed.Lie bytes) told (due_lie volume inbox judge (answer_of bytes)) refl refl
-      (subst (λ c. AsDue volume events (t ∷ inbox) judge n (lied_to c (answer_of bytes)) (due_lie volume inbox judge (answer_of bytes))) (sym client)
-      (lied_as_due volume events reads inbox judge n t refl mirrors (answer_of bytes)))
-      ends rest
-
-  event_exact : (w : World) (inbox : List TraceStep) (judge : Judge) (reads : List (ℕ × ℕ)) (n : ℕ) (e : Event) (es : List Event)
-      → event_at events n ≡ Some e
-      → w.client ≡ client_at volume judge reads → Mirrors volume reads inbox judge n
-      → Extends w.sent all
-      → Extends (run_world (stepped w n e).world (n + 1) es).sent all
-      → Exact (n + 1) es
-      → (stepped w n e).lines ++ run_lines (stepped w n e).world (n + 1) es
-      ≡ due_rest inbox judge (length w.sent) n (e ∷ es) (steps_of w n e ++ run_trace (stepped w n e).world (n + 1) es)
-  unfolding stepped steps_of
-  event_exact w inbox judge reads n (event.Write b x) es at client mirrors extends ends rest =
-      requested_exact w inbox judge reads n (request.Write b x) (event.Write b x) es refl at client mirrors ends rest
-  event_exact w inbox judge reads n (event.Read b) es at client mirrors extends ends rest =
-      requested_exact w inbox judge reads n (request.Read b) (event.Read b) es refl at client mirrors ends rest
-  event_exact w inbox judge reads n (event.Deliver k) es at client mirrors extends ends rest =
-      delivered_exact w inbox judge reads n k es (message_at w.sent k) refl client mirrors extends ends rest
-  event_exact w inbox judge reads n (event.Lie bytes) es at client mirrors extends ends rest =
-      lied_exact w inbox judge reads n bytes es client mirrors ends rest
-
-  exact_from : (es before : List Event) (n : ℕ) → events ≡ before ++ es → n ≡ length before + 1 → Exact n es
-  unfolding Exact run_world run_lines run_trace due_from
-  exact_from [] before n split number w inbox judge reads client mirrors ends = refl
-  exact_from (e ∷ es) before n split number w inbox judge reads client mirrors ends =
-      let at : event_at events n ≡ Some e = rw (split, number) (event_here before es e) in
-      let later : Exact (n + 1) es =
-      exact_from es (before ++ e ∷ []) (n + 1) (split ∙ sym (append_assoc before (e ∷ []) es)) (rw (length-append before (e ∷ []), number) refl) in
-      event_exact w inbox judge reads n e es at client mirrors
-      (extends_trans _ _ _ (stepped_grows w n e).sent (extends_trans _ _ _ (run_grows (stepped w n e).world (n + 1) es).sent ends)) ends later
-
--- The lines of a run are those due, for its own messages and its own trace.
-pub exact_run : (volume : Volume) (events : List Event) → run_lines (new_world volume) 1 events
-    ≡ lines_due volume events (run_world (new_world volume) 1 events).sent (run_world (new_world volume) 1 events).trace
-unfolding asked_block fold_batches Exact
-exact_run volume events =
-    let w : World = new_world volume in
-    let last : World = run_world w 1 events in
-    exact_from volume events last.sent events [] 1 refl refl w [] start_judge [] refl
-    (record { count = length-array volume []; agree = λ v. refl; ended = λ v among. absurd cc; asked = λ v b asks. absurd cc })
-    (extends_same last.sent)
-    ∙ ap (lines_due volume events last.sent) (sym (run_grows w 1 events).trace)
+module _ (volume : Volume) (events : List Event) (posts : List Posted) (nodes : HasNodes volume.geometry) where
+  -- from any history on
+  pub lines_from_here : (steps : List TraceStep) (history : List Past) (n m : ℕ) (c : state.Client) → Holds volume history (judge_of volume.geometry events history) n m c → n ≤ 2 ^ 32
+      → AllScripted events (all_taken (since opens history)) → AreReady volume events posts history n m steps
+      → client_lines volume posts c steps ≡ map (λ p. p.lines) (pasts_from volume events posts history steps)
+  unfolding client_lines pasts_from AreReady
+  lines_from_here [] history n m c h small script ready = refl
+  lines_from_here (step ∷ steps) history n m c h small script ready =
+      let judge : Judge = judge_of volume.geometry events history in
+      let x : News = news_of posts step in
+      let row = step_as_due volume events history judge n m step nodes c h small (head_written events history judge script) x ready.0 in
+      ap₂ (λ l ls. l ∷ ls) row.same
+      (lines_from_here steps (past_of volume events posts history step ∷ history) (event_after n step.event x) (session_after m x) (told volume c step.event x).client row.holds
+      (small_after events n m step.event x small ready.0.fits)
+      (next_scripted events history (past_of volume events posts history step) n m ready.0.fits script)
+      ready.1)

@@ -1,15 +1,18 @@
-//! The law of the lines: a run's lines are exactly those that are due, for its own messages and its own trace.
+//! The law of the lines: what the client's rules give over a trace is what is due.
 #![tactic(auto)]
 
-ghost use Rattle.std.specs.Prelude.{◌≡◌};
-ghost use Rattle.salus_model.specs.declared.schedule.Event.{Event};
-ghost use Rattle.salus_model.specs.declared.schedule.Volume.{Volume};
-ghost use Rattle.std.specs.Prelude.{List};
+ghost use Rattle.std.specs.Prelude.{◌≡◌, ◌≤◌, ◌<◌, ◌^◌, List, [], length};
+ghost use Rattle.schedule_text.specs.declared.schedule.Event.{Event};
+ghost use Rattle.schedule_text.specs.declared.schedule.Volume.{Volume};
+ghost use Rattle.salus_model.specs.declared.trace.TraceStep.{TraceStep};
+ghost use Rattle.salus_model.specs.Following.{Posted, Follows};
 ghost use Rattle.salus_model.specs.Due.{lines_due};
-ghost use Rattle.salus_world.specs.Machine.{new_world, run_lines, run_world};
+ghost use Rattle.law_lines.specs.Running.{run_lines};
+ghost use Rattle.law_lines.specs.Scheduled.{SessionsRise, ChoicesHold};
 
-/// The lines of a run are the lines due.
-pub fn lines_are_due()
-    ensures { (volume : Volume) (events : List Event) → run_lines (new_world volume) 1 events
-        ≡ lines_due volume events (run_world (new_world volume) 1 events).sent (run_world (new_world volume) 1 events).trace }
+/// The client's lines over a run that follows its schedule are the lines due.
+pub fn lines_are_as_due()
+    ensures { (volume : Volume) (events : List Event) (posts : List Posted) (trace : List TraceStep) → 1 ≤ volume.geometry.replicas
+        → length events < 2 ^ 32 → SessionsRise 2 events → Follows events posts trace → ChoicesHold volume events posts [] trace
+        → run_lines volume events posts trace ≡ lines_due volume events posts trace }
 {}

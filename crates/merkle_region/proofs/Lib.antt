@@ -6,3 +6,8 @@ pub mod Reached
 pub mod Carried
 pub mod Tested
 pub mod Vectors
+pub mod Raising
+pub mod Standing
+pub mod KeptRoots
+pub mod Beneath
+pub mod Gathering

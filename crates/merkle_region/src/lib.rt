@@ -5,8 +5,11 @@
 //! share a digest, a path that verifies carries the block that stands at its place.
 #![tactic(auto)]
 
+pub mod kept;
 pub mod path;
+mod raised;
 pub mod tree;
 
+pub use kept::Tree;
 pub use path::{fold_path, verifies};
 pub use tree::{path_of, root};

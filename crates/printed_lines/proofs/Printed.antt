@@ -2,8 +2,8 @@
 use Rattle.std.proofs.Common.{◌≡◌, [], ◌∷◌, ◌++◌, Some, codes, refl}
 use Rattle.std.specs.Fmt.{digits}
 use Rattle.salus_types.specs.declared.strike.Strike.TheVariants as strike
-use Rattle.salus_model.specs.declared.line.Line.TheVariants as line
-use Rattle.salus_model.specs.declared.line.RequestRefusal.TheVariants as refusal
+use Rattle.printed_lines.specs.declared.line.Line.TheVariants as line
+use Rattle.printed_lines.specs.declared.line.RequestRefusal.TheVariants as refusal
 use Rattle.text_words.specs.Writing.{hex_text, block_text}
 use Rattle.printed_lines.specs.LineText.{strike_text, replica_text, cause_text, words_text, line_text, text_of, refusal_text}
 

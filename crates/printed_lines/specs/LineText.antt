@@ -3,10 +3,10 @@ use Rattle.std.specs.Prelude.{ℕ, List, [], ◌∷◌, ◌++◌, Option, None, 
 use Rattle.std.specs.List.{flat_map}
 use Rattle.salus_types.specs.declared.strike.Strike.{Strike}
 use Rattle.salus_types.specs.declared.strike.Strike.TheVariants as strike
-use Rattle.salus_model.specs.declared.line.Line.{Line}
-use Rattle.salus_model.specs.declared.line.Line.TheVariants as line
-use Rattle.salus_model.specs.declared.line.RequestRefusal.{RequestRefusal}
-use Rattle.salus_model.specs.declared.line.RequestRefusal.TheVariants as refusal
+use Rattle.printed_lines.specs.declared.line.Line.{Line}
+use Rattle.printed_lines.specs.declared.line.Line.TheVariants as line
+use Rattle.printed_lines.specs.declared.line.RequestRefusal.{RequestRefusal}
+use Rattle.printed_lines.specs.declared.line.RequestRefusal.TheVariants as refusal
 use Rattle.text_words.specs.Writing.{hex_text, block_text}
 
 -- what a replica did: the two digests, or the two numbers, with : between them

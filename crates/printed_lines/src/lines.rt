@@ -2,7 +2,7 @@ ghost use Rattle.std.specs.Prelude.{◌≡◌, ◌++◌, codes, decimal, OnOk, I
 ghost use Rattle.printed_lines.specs.LineText.{cause_text, words_text, line_text, text_of, refusal_text};
 
 use crate::strikes::put_strikes;
-use salus_model::{Line, Lines, RequestRefusal};
+use crate::{Line, Lines, RequestRefusal};
 use salus_types::NoMemory;
 use std::alloc::Global;
 use text_words::{put, put_block, put_number};

@@ -8,8 +8,13 @@ use std::env;
 use std::io::{self, ErrorKind};
 use std::process::ExitCode;
 
-// The statuses that `main` itself looks at: the words are no command, and there was no memory.
+// The statuses that come with a line on standard error: the words are no command, the source failed, the sink failed,
+// there was no memory.
 const USAGE: u8 = 2;
+
+const SOURCE_FAILED: u8 = 4;
+
+const SINK_FAILED: u8 = 5;
 
 const NO_MEMORY: u8 = 6;
 
@@ -37,10 +42,21 @@ fn status_of(rt: &HostRuntime) -> u8 {
     salus(rt.alloc(), &words, &mut source, &mut sink, &mut report)
 }
 
+/// What standard error is told of a status. Writing it takes no memory.
+fn line_of(status: u8) -> Option<&'static str> {
+    match status {
+        USAGE => Some("usage: salus replay < SCHEDULE"),
+        SOURCE_FAILED => Some("salus: standard input could not be read"),
+        SINK_FAILED => Some("salus: standard output could not be written"),
+        NO_MEMORY => Some("salus: out of memory"),
+        _ => None,
+    }
+}
+
 fn main(rt: HostRuntime) -> ExitCode {
     let status = status_of(&rt);
-    if status == USAGE {
-        let _ = eprintln!(rt; "usage: salus replay < SCHEDULE");
+    if let Some(line) = line_of(status) {
+        let _ = eprintln!(rt; "{line}");
     }
     ExitCode::from(status)
 }

@@ -1,8 +1,9 @@
 -- Items read one after the other, as a loop reads them.
-use Rattle.std.proofs.Common.{◌≡◌, ℕ, suc, ◌-◌, ◌+◌, ◌≤◌, ◌<◌, List, [], ◌∷◌, ◌++◌, Result, Ok, Err, refl, sym, ap, subst, ◌∙◌, append_assoc, append-nil, arith}
+use Rattle.std.proofs.Common.{◌≡◌, ℕ, suc, ◌-◌, ◌+◌, ◌≤◌, ◌<◌, List, [], ◌∷◌, ◌++◌, IfSome, Result, Ok, Err, refl, sym, ap, subst, ◌∙◌, append_assoc, append-nil, arith}
 use Rattle.salus_codec.specs.declared.errors.FieldError.{FieldError}
 use Rattle.salus_codec.specs.declared.errors.FieldError.TheVariants as error
-use Rattle.salus_codec.specs.Reading.{Field, ◌>>=◌, Fails, Gives}
+use Rattle.salus_types.specs.Outcome.{Gives}
+use Rattle.salus_codec.specs.Reading.{Field, ◌>>=◌, field_fault}
 use Rattle.salus_codec.specs.Formats.{times}
 
 -- what was read before, and what is still read
@@ -29,8 +30,8 @@ stops item f front count i bytes total lt h so_far =
     let one : with_front front (times item (count - i) bytes) ≡ Err f = rw (k, h) refl in
     sym so_far ∙ one
 
-pub ends : {A : Type 0} (item : List ℕ → Field A) (e : FieldError) (front : List A) (count i : ℕ) (bytes : List ℕ) (total : Field (List A)) → i < count → Fails e (item bytes)
-    → with_front front (times item (count - i) bytes) ≡ total → Fails e total
+pub ends : {A : Type 0} (item : List ℕ → Field A) (e : FieldError) (front : List A) (count i : ℕ) (bytes : List ℕ) (total : Field (List A)) → i < count → IfSome (field_fault e) (λ refused. item bytes ≡ refused)
+    → with_front front (times item (count - i) bytes) ≡ total → IfSome (field_fault e) (λ refused. total ≡ refused)
 ends item error.NoMemory front count i bytes total lt h so_far = tt
 ends item error.Short front count i bytes total lt h so_far = stops item error.Short front count i bytes total lt h so_far
 ends item error.Count front count i bytes total lt h so_far = stops item error.Count front count i bytes total lt h so_far
@@ -50,5 +51,5 @@ pub starts : {A : Type 0} (item : List ℕ → Field A) (count : ℕ) (bytes : L
 starts item count bytes = let k : count - 0 ≡ count = omega arith in rw k (nothing_before (times item count bytes))
 
 -- an error that a reader hands on
-pub hands_on : {X Y : Type 0} (view : X → Y) (r : Result X FieldError) (e f : FieldError) (reading : Result Y FieldError) → r ≡ Err e → e ≡ f → Fails f reading → Gives view r reading
-hands_on {X} view r e f reading is same h = subst (λ (s : Result X FieldError). Gives view s reading) (sym (is ∙ ap Err same)) h
+pub hands_on : {X Y : Type 0} (view : X → Result Y FieldError) (r : Result X FieldError) (e f : FieldError) (reading : Result Y FieldError) → r ≡ Err e → e ≡ f → IfSome (field_fault f) (λ refused. reading ≡ refused) → Gives view field_fault r reading
+hands_on {X} view r e f reading is same h = subst (λ (s : Result X FieldError). Gives view field_fault s reading) (sym (is ∙ ap Err same)) h

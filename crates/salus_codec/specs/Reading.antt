@@ -1,5 +1,5 @@
 -- Reading from left to right: a field at the front of the bytes is its value and the bytes after it, or the fault.
-use Rattle.std.specs.Prelude.{◌≡◌, ℕ, List, length, take, drop, Result, Ok, Err, nat_lt, if◌then◌else◌}
+use Rattle.std.specs.Prelude.{ℕ, List, length, take, drop, Option, None, Some, Result, Ok, Err, nat_lt, if◌then◌else◌}
 use Rattle.byteorder.specs.Endian.{big_number}
 use Rattle.salus_codec.specs.declared.errors.FieldError.{FieldError}
 use Rattle.salus_codec.specs.declared.errors.FieldError.TheVariants as error
@@ -34,13 +34,8 @@ u32_at bytes = number_at 4 bytes
 unfoldable pub u64_at : List ℕ → Field ℕ
 u64_at bytes = number_at 8 bytes
 
--- What a reader of the code answers is what reading gives, unless memory ran out. `view` is what it answered, and
--- what it left.
-abbrev pub Fails : {Y : Type 0} → FieldError → Result Y FieldError → Type 0
-Fails error.NoMemory reading = Unit {0}
-Fails error.Short reading = reading ≡ Err error.Short
-Fails error.Count reading = reading ≡ Err error.Count
-
-abbrev pub Gives : {X Y : Type 0} → (X → Y) → Result X FieldError → Result Y FieldError → Type 0
-Gives view (Ok x) reading = reading ≡ Ok (view x)
-Gives view (Err e) reading = Fails e reading
+-- the fault that reading ends with where a reader of the code answers this error; want of memory is none
+abbrev pub field_fault : {Y : Type 0} → FieldError → Option (Result Y FieldError)
+field_fault error.Short = Some (Err error.Short)
+field_fault error.Count = Some (Err error.Count)
+field_fault error.NoMemory = None

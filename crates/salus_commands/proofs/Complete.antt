@@ -1,9 +1,7 @@
 -- A replay of a schedule ends with no other status than it should.
 use Rattle.std.proofs.Common.{◌≡◌, ◌⊎◌, ℕ, List, [], ◌∷◌, Option, IfSome, inl, inr, subst}
 use Rattle.merkle_region.specs.Tree.{IsAmong}
-use Rattle.small_schedule.specs.Grammar.{IsFirstWrong}
-use Rattle.small_schedule.proofs.Whole.{wrong-none}
-use Rattle.salus_commands.specs.Statuses.{HasSchedule, WroteRefusal}
+use Rattle.salus_commands.specs.Statuses.{HasSchedule, IsNoSchedule, WroteRefusal}
 
 -- the statuses that are left
 pub done_or_memory : (status : ℕ) → IsAmong status (0 ∷ 3 ∷ 4 ∷ 5 ∷ 6 ∷ []) → (status ≡ 3 → ⊥) → (status ≡ 4 → ⊥) → (status ≡ 5 → ⊥) → (status ≡ 0) ⊎ (status ≡ 6)
@@ -16,5 +14,4 @@ done_or_memory status (inr (inr (inr (inr (inr none))))) refused source sink = a
 
 -- a schedule isn't refused
 pub never_refused : (old new held_old held_new : Option (List ℕ)) → HasSchedule old → WroteRefusal old new held_old held_new → ⊥
-never_refused old new held_old held_new has wrote =
-    wrong-none has.text wrote.line has.schedule (subst (λ left. IfSome left (λ text. IsFirstWrong text wrote.line)) has.told wrote.refused.wrong) has.means
+never_refused old new held_old held_new has wrote = subst (λ left. IfSome left IsNoSchedule) has.told wrote.refused.none has.schedule has.means

@@ -1,19 +1,19 @@
 -- What a whole run has, by the laws.
 use Rattle.std.proofs.Common.{◌≡◌, ◌^◌, ◌≤◌, List, length, replicate, Some, refl, sym, subst, arith, ◌∙◌}
 use Rattle.std.proofs.lemmas.List.{length-replicate}
-use Rattle.salus_model.specs.declared.schedule.Schedule.{Schedule}
-use Rattle.salus_model.specs.declared.schedule.Volume.{Volume}
-use Rattle.salus_model.specs.declared.schedule.Event.{Event}
-use Rattle.salus_model.specs.declared.line.Line.{Line}
-use Rattle.salus_model.specs.Judge.{IsLegalHistory}
-use Rattle.salus_model.specs.Due.{lines_due}
-use Rattle.salus_world.specs.declared.world.World.{World}
-use Rattle.salus_world.specs.Machine.{IsReady, new_world, run_world, run_lines}
-use Rattle.salus_world.proofs.Powers.{power_small}
-use Rattle.law_lines.proofs.Whole.{exact_run}
-use Rattle.law_history.proofs.Continued.{legal}
-use Rattle.law_trace.proofs.Schedules.{followed}
-use Rattle.law_trace.proofs.Rules.{by_rules}
+use Rattle.small_model.specs.declared.schedule.Schedule.{Schedule}
+use Rattle.small_model.specs.declared.schedule.Volume.{Volume}
+use Rattle.small_model.specs.declared.schedule.Event.{Event}
+use Rattle.printed_lines.specs.declared.line.Line.{Line}
+use Rattle.small_model.specs.Judge.{IsLegalHistory}
+use Rattle.small_model.specs.Due.{lines_due}
+use Rattle.small_world.specs.declared.world.World.{World}
+use Rattle.small_world.specs.Machine.{IsReady, new_world, run_world, run_lines}
+use Rattle.small_world.proofs.Powers.{power_small}
+use Rattle.small_law_lines.proofs.Whole.{exact_run}
+use Rattle.small_law_history.proofs.Continued.{legal}
+use Rattle.small_law_trace.proofs.Schedules.{followed}
+use Rattle.small_law_trace.proofs.Rules.{by_rules}
 use Rattle.salus_commands.specs.Replaying.{Replays}
 
 -- a new world is ready for the first step

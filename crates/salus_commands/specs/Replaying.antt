@@ -1,13 +1,13 @@
 -- What a replay reports.
 use Rattle.std.specs.Prelude.{◌≡◌, ℕ, List, [], Option, None, Some, IfSome}
-use Rattle.salus_model.specs.declared.schedule.Schedule.{Schedule}
-use Rattle.salus_model.specs.Following.{Follows}
-use Rattle.salus_model.specs.Judge.{IsLegalHistory}
-use Rattle.salus_model.specs.Due.{lines_due}
-use Rattle.salus_model.specs.Seen.{NoCollision}
+use Rattle.small_model.specs.declared.schedule.Schedule.{Schedule}
+use Rattle.small_model.specs.Following.{Follows}
+use Rattle.small_model.specs.Judge.{IsLegalHistory}
+use Rattle.small_model.specs.Due.{lines_due}
+use Rattle.small_model.specs.Seen.{NoCollision}
 use Rattle.small_schedule.specs.Grammar.{IsSchedule}
-use Rattle.salus_world.specs.declared.world.World.{World}
-use Rattle.law_trace.specs.ByRules.{IsByRules}
+use Rattle.small_world.specs.declared.world.World.{World}
+use Rattle.small_law_trace.specs.ByRules.{IsByRules}
 use Rattle.salus_commands.specs.declared.report.Report.{Report}
 
 abbrev pub empty_report : Report

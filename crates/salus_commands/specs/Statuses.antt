@@ -3,14 +3,19 @@ use Rattle.std.specs.Prelude.{◌≡◌, ℕ, ◌⊎◌, List, Option, Some, IfS
 use Rattle.salus_io.specs.Told.{ConsumesMore, IsAtEnd, Appends, AppendsPrefix}
 use Rattle.printed_lines.specs.LineText.{text_of, refusal_text}
 use Rattle.small_schedule.specs.Grammar.{IsSchedule, IsFirstWrong}
-use Rattle.salus_model.specs.declared.schedule.Schedule.{Schedule}
+use Rattle.small_model.specs.declared.schedule.Schedule.{Schedule}
 use Rattle.salus_commands.specs.declared.report.Report.{Report}
 use Rattle.salus_commands.specs.Replaying.{empty_report, Replays, RanSchedule}
 
--- The source was read to its end, or past the limit of a schedule's text; what it had, if it tells, is first wrong at
--- this line.
+-- the text is no schedule's
+abbrev pub IsNoSchedule : List ℕ → Type 0
+IsNoSchedule text = (schedule : Schedule) → ¬ IsSchedule text schedule
+
+-- The source was read to its end, or past the limit of a schedule's text; what it had, if it tells, is no schedule's
+-- text, and first wrong at this line.
 pub record IsRefusedAt (old new : Option (List ℕ)) (line : ℕ) : Type 0 where
   pub read : IsAtEnd new ⊎ ConsumesMore old new 67108864
+  pub none : IfSome old IsNoSchedule
   pub wrong : IfSome old (λ text. IsFirstWrong text line)
 
 -- the refusal was written, and nothing else
@@ -50,9 +55,10 @@ pub record RanText (text : List ℕ) (report : Report) : Type 0 where
   pub means : IsSchedule text schedule
   pub replays : Replays schedule report
 
--- the text is first wrong at a line, and the refusal was written
+-- the text is no schedule's and first wrong at a line, and the refusal was written
 pub record RefusedText (text : List ℕ) (held_old held_new : Option (List ℕ)) : Type 0 where
   pub line : ℕ
+  pub none : IsNoSchedule text
   pub wrong : IsFirstWrong text line
   pub written : Appends held_old held_new (refusal_text line)
 
@@ -62,6 +68,7 @@ pub record PartOfLines (text : List ℕ) (report : Report) (held_old held_new : 
 
 pub record PartOfRefusal (text : List ℕ) (report : Report) (held_old held_new : Option (List ℕ)) : Type 0 where
   pub line : ℕ
+  pub none : IsNoSchedule text
   pub wrong : IsFirstWrong text line
   pub written : AppendsPrefix held_old held_new (refusal_text line)
   pub nothing : report ≡ empty_report

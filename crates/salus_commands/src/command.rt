@@ -1,6 +1,7 @@
-ghost use Rattle.std.specs.Prelude.{◌≡◌, ◌↔◌, ◌⊎◌, ◌≤◌, ◌∷◌, [], IsTrue, IfSome, map, string_bytes, Option, Some, None};
+ghost use Rattle.std.specs.Prelude.{◌≡◌, ◌==◌, ◌↔◌, ◌⊎◌, ◌≤◌, ◌<◌, ◌∷◌, [], IsTrue, IfSome, map, string_bytes, Option, Some, None};
 ghost use Rattle.salus_io.specs.Told.{Appends, AppendsPrefix, ConsumesMore, IsAtEnd};
-ghost use Rattle.salus_io.specs.Faults.{Rose};
+ghost use Rattle.salus_io.specs.Faults.{StaysSure};
+ghost use Rattle.salus_types.specs.Outcome.{Rose};
 ghost use Rattle.printed_lines.specs.LineText.{text_of, refusal_text};
 ghost use Rattle.merkle_region.specs.Tree.{IsAmong};
 ghost use Rattle.small_schedule.specs.Grammar.{IsSchedule, IsFirstWrong};
@@ -13,7 +14,7 @@ use crate::report::Report;
 use crate::words::is_replay;
 use printed_lines::{text_of_lines, write_refusal};
 use salus_io::{ReadError, Sink, SinkFault, Source, read_whole, write_all};
-use salus_model::Schedule;
+use small_model::Schedule;
 use small_schedule::{ParseError, parse};
 use std::alloc::Global;
 
@@ -36,9 +37,12 @@ const MOST_BYTES: usize = 67_108_864;
 
 /// Writes a text, and gives the status `done` where all of it was taken.
 fn print<K: Sink>(sink: &mut K, text: &[u8], done: u8) -> u8
-    ensures done { result ≡ done → (done ≡ 5 → ⊥) → (done ≡ 6 → ⊥) → Appends (K.held sink.old) (K.held sink.new) text.now }
-    ensures failed { result ≡ 5 → (done ≡ 5 → ⊥) → Rose (K.faults sink.old) (K.faults sink.new) }
+    requires { done < 5 }
+    ensures done { result ≡ done → Appends (K.held sink.old) (K.held sink.new) text.now }
+    ensures failed { result ≡ 5 → Rose (K.faults sink.old) (K.faults sink.new) }
+    ensures counted { (result ≡ 5 → ⊥) → K.faults sink.new ≡ K.faults sink.old }
     ensures part { AppendsPrefix (K.held sink.old) (K.held sink.new) text.now }
+    ensures sure { StaysSure (K.failing sink.old) (K.failing sink.new) (result == 5) }
     ensures others { IsAmong result (done ∷ 5 ∷ 6 ∷ []) }
 {
     match write_all(sink, text) {
@@ -52,7 +56,9 @@ fn print<K: Sink>(sink: &mut K, text: &[u8], done: u8) -> u8
 fn refuse<K: Sink>(alloc: Global, line: u64, sink: &mut K) -> u8
     ensures written { result ≡ 3 → Appends (K.held sink.old) (K.held sink.new) (refusal_text line) }
     ensures failed { result ≡ 5 → Rose (K.faults sink.old) (K.faults sink.new) }
-    ensures part { result ≡ 5 → AppendsPrefix (K.held sink.old) (K.held sink.new) (refusal_text line) }
+    ensures counted { (result ≡ 5 → ⊥) → K.faults sink.new ≡ K.faults sink.old }
+    ensures part { AppendsPrefix (K.held sink.old) (K.held sink.new) (refusal_text line) }
+    ensures sure { StaysSure (K.failing sink.old) (K.failing sink.new) (result == 5) }
     ensures others { IsAmong result (3 ∷ 5 ∷ 6 ∷ []) }
 {
     let mut text = Vec::new(alloc);
@@ -68,7 +74,11 @@ fn run<K: Sink>(alloc: Global, schedule: &Schedule, sink: &mut K, report: &mut R
     ensures replays { (result ≡ 0) ⊎ (result ≡ 5) → Replays schedule.now report.new }
     ensures written { result ≡ 0 → Appends (K.held sink.old) (K.held sink.new) (text_of report.new.lines) }
     ensures failed { result ≡ 5 → Rose (K.faults sink.old) (K.faults sink.new) }
+    ensures counted { (result ≡ 5 → ⊥) → K.faults sink.new ≡ K.faults sink.old }
     ensures part { result ≡ 5 → AppendsPrefix (K.held sink.old) (K.held sink.new) (text_of report.new.lines) }
+    ensures memory { result ≡ 6 → (sink.new ≡ sink.old) × (report.new ≡ report.old)
+        ⊎ Replays schedule.now report.new × AppendsPrefix (K.held sink.old) (K.held sink.new) (text_of report.new.lines) }
+    ensures sure { StaysSure (K.failing sink.old) (K.failing sink.new) (result == 5) }
     ensures others { IsAmong result (0 ∷ 5 ∷ 6 ∷ []) }
 {
     match replay(alloc, schedule, report) {
@@ -88,8 +98,12 @@ fn answer<K: Sink>(alloc: Global, text: &[u8], sink: &mut K, report: &mut Report
     ensures written { result ≡ 0 → Appends (K.held sink.old) (K.held sink.new) (text_of report.new.lines) }
     ensures refused { result ≡ 3 → RefusedText text.now (K.held sink.old) (K.held sink.new) }
     ensures failed { result ≡ 5 → Rose (K.faults sink.old) (K.faults sink.new) }
+    ensures counted { (result ≡ 5 → ⊥) → K.faults sink.new ≡ K.faults sink.old }
     ensures part { result ≡ 5 → PartOfText text.now report.new (K.held sink.old) (K.held sink.new) }
+    ensures memory { result ≡ 6 → (sink.new ≡ sink.old) × (report.new ≡ report.old)
+        ⊎ PartOfText text.now report.new (K.held sink.old) (K.held sink.new) }
     ensures kept { result ≡ 3 → report.new ≡ report.old }
+    ensures sure { StaysSure (K.failing sink.old) (K.failing sink.new) (result == 5) }
     ensures others { IsAmong result (0 ∷ 3 ∷ 5 ∷ 6 ∷ []) }
 {
     match parse(alloc, text) {
@@ -113,8 +127,14 @@ fn replay_source<S: Source, K: Sink>(
     ensures refused { result ≡ 3 → WroteRefusal (S.left source.old) (S.left source.new) (K.held sink.old) (K.held sink.new) }
     ensures refused_report { result ≡ 3 → report.new ≡ report.old }
     ensures read_fault { result ≡ 4 → Rose (S.faults source.old) (S.faults source.new) × (sink.new ≡ sink.old) × (report.new ≡ report.old) }
+    ensures read_count { (result ≡ 4 → ⊥) → S.faults source.new ≡ S.faults source.old }
     ensures write_fault { result ≡ 5 → Rose (K.faults sink.old) (K.faults sink.new) }
+    ensures write_count { (result ≡ 5 → ⊥) → K.faults sink.new ≡ K.faults sink.old }
     ensures part { result ≡ 5 → WrotePart (S.left source.old) (S.left source.new) report.new (K.held sink.old) (K.held sink.new) }
+    ensures memory { result ≡ 6 → (sink.new ≡ sink.old) × (report.new ≡ report.old)
+        ⊎ WrotePart (S.left source.old) (S.left source.new) report.new (K.held sink.old) (K.held sink.new) }
+    ensures sure_source { StaysSure (S.failing source.old) (S.failing source.new) (result == 4) }
+    ensures sure_sink { StaysSure (K.failing sink.old) (K.failing sink.new) (result == 5) }
     ensures others { IsAmong result (0 ∷ 3 ∷ 4 ∷ 5 ∷ 6 ∷ []) }
 {
     match read_whole(alloc, source, MOST_BYTES) {
@@ -128,8 +148,8 @@ fn replay_source<S: Source, K: Sink>(
 /// Does what the words say, and gives the status that the program ends with. The report is empty before.
 ///
 /// 0: the run is done, and its lines are written. 2: the words are no command. 3: the text is no schedule, and the
-/// line `error L later` is written. 4: the source failed. 5: the sink failed. 6: there was no memory; nothing is said
-/// of sink and report then.
+/// line `error L later` is written. 4: the source failed. 5: the sink failed, and holds a front part of the text. 6:
+/// there was no memory; the sink holds nothing more than before, or a front part of the text.
 pub fn salus<S: Source, K: Sink>(
     alloc: Global,
     words: &Vec<String>,
@@ -152,10 +172,20 @@ pub fn salus<S: Source, K: Sink>(
     ensures refused { result ≡ 3 → WroteRefusal (S.left source.old) (S.left source.new) (K.held sink.old) (K.held sink.new) }
     ensures refused_report { result ≡ 3 → report.new ≡ report.old }
 
-    // 4 and 5 only where a count rose; the sink holds a front part of the text then.
+    // 4 and 5 only where a count rose, and no other status where one did; at 5 the sink holds a front part of the text.
     ensures read_fault { result ≡ 4 → Rose (S.faults source.old) (S.faults source.new) × (sink.new ≡ sink.old) × (report.new ≡ report.old) }
+    ensures read_count { (result ≡ 4 → ⊥) → S.faults source.new ≡ S.faults source.old }
     ensures write_fault { result ≡ 5 → Rose (K.faults sink.old) (K.faults sink.new) }
+    ensures write_count { (result ≡ 5 → ⊥) → K.faults sink.new ≡ K.faults sink.old }
     ensures part { result ≡ 5 → WrotePart (S.left source.old) (S.left source.new) report.new (K.held sink.old) (K.held sink.new) }
+
+    // 6: sink and report are as they were, or the sink holds a front part of the text.
+    ensures memory { result ≡ 6 → (sink.new ≡ sink.old) × (report.new ≡ report.old)
+        ⊎ WrotePart (S.left source.old) (S.left source.new) report.new (K.held sink.old) (K.held sink.new) }
+
+    // A source that is known to fail at no call gives no 4, and such a sink no 5.
+    ensures sure_source { StaysSure (S.failing source.old) (S.failing source.new) (result == 4) }
+    ensures sure_sink { StaysSure (K.failing sink.old) (K.failing sink.new) (result == 5) }
 
     // A replay of a schedule with no fault counted is done, unless there was no memory.
     ensures complete { IsReplay (map (λ w. string_bytes w) words.now.items) → HasSchedule (S.left source.old)

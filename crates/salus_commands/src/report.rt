@@ -1,6 +1,6 @@
-use salus_model::Lines;
+use printed_lines::Lines;
 use salus_types::Items;
-use salus_world::World;
+use small_world::World;
 use std::alloc::Global;
 
 /// What a command leaves: the lines of a run, and its last world.

@@ -9,6 +9,9 @@ ghost use Rattle.std.specs.Prelude.{◌≡◌, ◌∷◌, ◌++◌, length};
 ghost use Rattle.sha2.specs.Sha256.{sha256};
 ghost use Rattle.salus_hash.specs.Hash.{leaf, inner, above};
 
+mod keyed_hash;
+
+pub use keyed_hash::{HmacKey, hmac};
 use sha2::{Digest as _, Sha256};
 use std::marker::Model;
 

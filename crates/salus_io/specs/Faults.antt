@@ -1,19 +1,16 @@
 -- When a call may fail, and what a failure leaves behind: the count of faults rises.
-use Rattle.std.specs.Prelude.{◌≡◌, ◌==◌, ℕ, ◌+◌, ◌-◌, ◌^◌, ◌<◌, ◌≤◌, Bool, true, false, List, [], map, filter, nat_lt, option_map, Option, Result, IfSome, Some, Ok, Err, MatchResult}
+use Rattle.std.specs.Prelude.{◌≡◌, ◌==◌, ℕ, ◌-◌, Bool, true, false, List, [], map, filter, nat_lt, option_map, Option, Result, IfSome, Some, Ok, Err, MatchResult}
 use Rattle.std.specs.List.{list_any}
+use Rattle.salus_types.specs.Outcome.{Rose}
 use Rattle.salus_io.specs.declared.source.Failed.{Failed}
 use Rattle.salus_io.specs.declared.sink.SinkFault.{SinkFault}
 use Rattle.salus_io.specs.declared.sink.SinkFault.TheVariants as sink_fault
 use Rattle.salus_io.specs.declared.whole.ReadError.{ReadError}
 use Rattle.salus_io.specs.declared.whole.ReadError.TheVariants as read_error
 
--- the count has risen, but for one that stands at the end of its type
-abbrev pub Rose : ℕ → ℕ → Type 0
-Rose before now = (before ≤ now) × (before + 1 < 2 ^ 64 → before < now)
-
 -- a read fails only where the count rises
-abbrev pub HasCause : {T : Type 0} → ℕ → ℕ → Result T Failed → Type 0
-HasCause before now result = MatchResult result (λ _. now ≡ before) (λ _. Rose before now)
+abbrev pub HasSourceCause : {T : Type 0} → ℕ → ℕ → Result T Failed → Type 0
+HasSourceCause before now result = MatchResult result (λ _. now ≡ before) (λ _. Rose before now)
 
 -- a failure of a sink raises the count, and want of memory leaves it
 abbrev pub SinkCause : ℕ → ℕ → SinkFault → Type 0

@@ -1,4 +1,4 @@
-ghost use Rattle.salus_io.specs.Faults.{Rose};
+ghost use Rattle.salus_types.specs.Outcome.{Rose};
 
 // The count of faults after one more. It stands still at the end of its type.
 pub(crate) fn raised(faults: u64) -> u64

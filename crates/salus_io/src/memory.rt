@@ -1,6 +1,6 @@
 ghost use Rattle.std.specs.Prelude.{◌≤◌, ◌<◌, ◌≡◌, ◌-◌, [], ◌∷◌, ◌++◌, length, take, drop, map, filter, min, is_err, IfOk, OnOk, OnErr};
 ghost use Rattle.salus_io.specs.Told.{Consumes, IsAtEnd, Appends};
-ghost use Rattle.salus_io.specs.Faults.{HasCause, HasSinkCause, FailsAsListed, is_sink_failure, fails_next, after_call};
+ghost use Rattle.salus_io.specs.Faults.{HasSourceCause, HasSinkCause, FailsAsListed, is_sink_failure, fails_next, after_call};
 
 use crate::faults::raised;
 use crate::{Failed, Sink, SinkFault, Source};
@@ -124,7 +124,7 @@ impl Source for MemSource {
         ensures taken { IfOk result (λ n. Consumes (Some self.old.left) (Some self.new.left) (take n out.new)) }
         ensures end { IfOk result (λ n. n ≡ 0 → IsAtEnd (Some self.new.left)) }
         ensures kept { OnErr result (self.new.left ≡ self.old.left) }
-        ensures cause { HasCause self.old.faults self.new.faults result }
+        ensures cause { HasSourceCause self.old.faults self.new.faults result }
         ensures listed { FailsAsListed (Some self.old.failing) (Some self.new.failing) (is_err result) }
         ensures piece { IfOk result (λ n. n ≡ min self.old.piece (min (length self.old.left) (length out.old))) }
         ensures pieces { self.new.piece ≡ self.old.piece }

@@ -1,6 +1,6 @@
 ghost use Rattle.std.specs.Prelude.{◌≤◌, ◌<◌, ◌≡◌, ℕ, List, Option, length, take, IfOk, OnErr, is_err};
 ghost use Rattle.salus_io.specs.Told.{Consumes, IsAtEnd};
-ghost use Rattle.salus_io.specs.Faults.{HasCause, FailsAsListed};
+ghost use Rattle.salus_io.specs.Faults.{HasSourceCause, FailsAsListed};
 
 /// A call of a source failed.
 #[derive(Clone, Copy, PartialEq, Eq, Debug, Drop)]
@@ -25,6 +25,6 @@ pub trait Source {
         ensures taken { IfOk result (λ n. Consumes (left self.old) (left self.new) (take n out.new)) }
         ensures end { IfOk result (λ n. n ≡ 0 → IsAtEnd (left self.new)) }
         ensures kept { OnErr result (left self.new ≡ left self.old) }
-        ensures cause { HasCause (faults self.old) (faults self.new) result }
+        ensures cause { HasSourceCause (faults self.old) (faults self.new) result }
         ensures listed { FailsAsListed (failing self.old) (failing self.new) (is_err result) };
 }

@@ -1,6 +1,6 @@
 ghost use Rattle.std.specs.Prelude.{◌≡◌, ◌<◌, ◌≤◌, None, length, take, IfOk, OnErr, IsErrOf};
 ghost use Rattle.std.specs.Io.KnownBytes.{Appends, Consumes, IsAtEnd, Keeps};
-ghost use Rattle.salus_io.specs.Faults.{HasCause, HasSinkCause};
+ghost use Rattle.salus_io.specs.Faults.{HasSourceCause, HasSinkCause};
 
 use crate::faults::raised;
 use crate::{Failed, Sink, SinkFault, Source};
@@ -49,7 +49,7 @@ impl<R: Read> Source for StdSource<R> {
     fn read(&mut self, out: &mut [u8]) -> Result<usize, Failed>
         requires { 0 < length out.old }
         ensures bound { IfOk result (λ n. n ≤ length out.new) }
-        ensures cause { HasCause self.old.faults self.new.faults result }
+        ensures cause { HasSourceCause self.old.faults self.new.faults result }
         // What the reader tells of its own bytes goes for those that the source gave.
         ensures taken { IfOk result (λ n. Consumes (R.remaining self.old.reader) (R.remaining self.new.reader) (take n out.new)) }
         ensures end { IfOk result (λ n. n ≡ 0 → IsAtEnd (R.remaining self.new.reader)) }
@@ -82,6 +82,7 @@ impl<W: Write> Sink for StdSink<W> {
         ensures memory { IsErrOf result SinkFault.NoMemory → ⊥ }
         // What the writer tells of its own bytes goes for those that the sink took.
         ensures taken { IfOk result (λ n. Appends (W.contents self.old.writer) (W.contents self.new.writer) (take n bytes.now)) }
+        ensures kept { OnErr result (Keeps (W.contents self.old.writer) (W.contents self.new.writer)) }
     {
         for _ in 0..u64::MAX {
             match self.writer.write(bytes) {

@@ -1,6 +1,6 @@
 ghost use Rattle.std.specs.Prelude.{◌≤◌, ◌<◌, ◌≡◌, ◌+◌, ◌++◌, length, take, vec_len, is_err, IfOk, OnOk, IfSome, IsErrOf};
 ghost use Rattle.salus_io.specs.Told.{Consumes, ConsumesSome, ConsumesMore, IsAtEnd, Appends, AppendsPrefix};
-ghost use Rattle.salus_io.specs.Faults.{HasCause, HasReadCause, HasSinkCause, StaysSure, is_read_failure, is_sink_failure};
+ghost use Rattle.salus_io.specs.Faults.{HasSourceCause, HasReadCause, HasSinkCause, StaysSure, is_read_failure, is_sink_failure};
 
 use crate::{Failed, Sink, SinkFault, Source};
 use std::alloc::{AllocError, Global};

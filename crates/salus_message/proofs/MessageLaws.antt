@@ -6,6 +6,7 @@ use Rattle.std.proofs.lemmas.Bool.{eqb-true}
 use Rattle.std.proofs.lemmas.List.{nil_from_length}
 use Rattle.std.proofs.lemmas.List.Elements.{All-from_recursion, recursion_from_All}
 use Rattle.salus_codec.specs.Spelling.{IsBytes}
+use Rattle.salus_types.specs.Outcome.{Gives}
 use Rattle.salus_codec.specs.Reading.{Field}
 use Rattle.salus_codec.specs.Formats.{made}
 use Rattle.salus_codec.proofs.Formats.{IsFormat, is_bytes, is_u8, is_u16, is_u32, is_u64, is_both, is_made, is_within, is_sized, is_counted, bind_ok, ok_is}
@@ -24,7 +25,7 @@ use Rattle.salus_message.specs.declared.wire.MessageError.TheVariants as refusal
 use Rattle.salus_message.specs.Kinds.{all_kinds, byte_of, kind_at, kind_of}
 use Rattle.salus_message.specs.Spelling.{prepared_bytes, committed_bytes, asked_bytes, ask_bytes, path_bytes, answer_bytes, bases_bytes, records_bytes, gathered_bytes, dump_bytes, dumped_bytes, fields_bytes, message_bytes}
 use Rattle.salus_message.specs.Ranges.{IsAnswer, IsHeld, IsMessage, PreparedWidths, CommittedWidths, AskedWidths, AnswerWidths, GatheredWidths, DumpWidths, DumpedWidths, HasWidths}
-use Rattle.salus_message.specs.Reading.{prepared_at, committed_at, asked_at, ask_at, path_at, answer_at, bases_at, records_at, gathered_at, dump_at, dumped_at, fields_at, whole, of_kind, message_at, Decodes}
+use Rattle.salus_message.specs.Reading.{prepared_at, committed_at, asked_at, ask_at, path_at, answer_at, bases_at, records_at, gathered_at, dump_at, dumped_at, fields_at, whole, of_kind, message_at, message_fault}
 
 -- ---- the fields of each kind
 
@@ -270,6 +271,6 @@ pub message_again : (m : Message) → IsMessage m → HasWidths m → message_at
 unfolding message_at
 message_again m i w = rw (kind_again (kind_of m), fields_again m i w) refl
 
-pub is_found : (bytes : List ℕ) (r : Result Message MessageError) → IsBytes bytes → Decodes r (message_at bytes) → IfOk r (λ m. (bytes ≡ message_bytes m) × IsMessage m × HasWidths m)
+pub is_found : (bytes : List ℕ) (r : Result Message MessageError) → IsBytes bytes → Gives Ok message_fault r (message_at bytes) → IfOk r (λ m. (bytes ≡ message_bytes m) × IsMessage m × HasWidths m)
 is_found bytes (Ok m) fits given = let t = message_takes bytes m fits given in (t.text, t.counts, t.widths)
 is_found bytes (Err e) fits given = tt

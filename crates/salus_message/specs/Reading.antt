@@ -1,5 +1,5 @@
 -- Messages read from left to right.
-use Rattle.std.specs.Prelude.{◌≡◌, ℕ, List, [], ◌∷◌, length, Option, None, Some, Result, Ok, Err, ◌==◌, if◌then◌else◌}
+use Rattle.std.specs.Prelude.{ℕ, List, [], ◌∷◌, length, codes, Option, None, Some, Result, Ok, Err, ◌==◌, if◌then◌else◌}
 use Rattle.salus_types.specs.declared.records.Record.{Record}
 use Rattle.salus_types.specs.declared.records.Base.{Base}
 use Rattle.salus_codec.specs.declared.errors.FieldError.{FieldError}
@@ -93,14 +93,18 @@ unfoldable pub message_at : List ℕ → Result Message MessageError
 message_at [] = Err refusal.Short
 message_at (byte ∷ rest) = of_kind (kind_at byte) rest
 
--- What the decoder answers is what reading gives, unless memory ran out.
-abbrev pub Refuses : MessageError → Result Message MessageError → Type 0
-Refuses refusal.Short reading = reading ≡ Err refusal.Short
-Refuses refusal.Tag reading = reading ≡ Err refusal.Tag
-Refuses refusal.Count reading = reading ≡ Err refusal.Count
-Refuses refusal.Trailing reading = reading ≡ Err refusal.Trailing
-Refuses refusal.NoMemory reading = Unit {0}
+-- the words by which users see what is wrong with a message
+abbrev pub message_words : MessageError → List ℕ
+message_words refusal.Short = codes "too few bytes"
+message_words refusal.Tag = codes "unknown kind"
+message_words refusal.Count = codes "field out of range"
+message_words refusal.Trailing = codes "bytes left over"
+message_words refusal.NoMemory = codes "out of memory"
 
-abbrev pub Decodes : Result Message MessageError → Result Message MessageError → Type 0
-Decodes (Ok m) reading = reading ≡ Ok m
-Decodes (Err e) reading = Refuses e reading
+-- the fault that reading ends with where the decoder answers this error; want of memory is none
+abbrev pub message_fault : MessageError → Option (Result Message MessageError)
+message_fault refusal.Short = Some (Err refusal.Short)
+message_fault refusal.Tag = Some (Err refusal.Tag)
+message_fault refusal.Count = Some (Err refusal.Count)
+message_fault refusal.Trailing = Some (Err refusal.Trailing)
+message_fault refusal.NoMemory = None

@@ -1,6 +1,7 @@
-ghost use Rattle.std.specs.Prelude.{◌≡◌, ◌++◌, ◌<◌, ◌^◌, All, length, OnOk};
+ghost use Rattle.std.specs.Prelude.{◌≡◌, ◌++◌, ◌<◌, ◌^◌, All, length, Ok, OnOk};
 ghost use Rattle.std.specs.List.{flat_map};
-ghost use Rattle.salus_codec.specs.Reading.{Gives};
+ghost use Rattle.salus_types.specs.Outcome.{Gives};
+ghost use Rattle.salus_codec.specs.Reading.{field_fault};
 ghost use Rattle.salus_codec.specs.Formats.{times};
 ghost use Rattle.client_tag.specs.Spelling.{record_bytes, base_bytes};
 ghost use Rattle.client_tag.specs.Ranges.{IsRecord, IsBase, AreBlocks};
@@ -43,7 +44,7 @@ pub struct Dumped {
 }
 
 fn read_each_base(alloc: Global, count: u32, fields: &mut Fields) -> Result<Bases, FieldError>
-    ensures { Gives (λ x. (x, fields.new)) result (times base_at count fields.old) }
+    ensures { Gives (λ x. Ok (x, fields.new)) field_fault result (times base_at count fields.old) }
 {
     let mut bases = Items::new(alloc);
     'each: for _ in 0..count {
@@ -55,14 +56,14 @@ fn read_each_base(alloc: Global, count: u32, fields: &mut Fields) -> Result<Base
 
 #[tactic(auto, unfolding(crate::specs::Reading::bases_at))]
 fn read_bases(alloc: Global, fields: &mut Fields) -> Result<Bases, FieldError>
-    ensures { Gives (λ x. (x, fields.new)) result (bases_at fields.old) }
+    ensures { Gives (λ x. Ok (x, fields.new)) field_fault result (bases_at fields.old) }
 {
     let count = fields.u32_within(0, 1048576)?;
     read_each_base(alloc, count, fields)
 }
 
 fn read_each_record(alloc: Global, count: u32, fields: &mut Fields) -> Result<Records, FieldError>
-    ensures { Gives (λ x. (x, fields.new)) result (times record_at count fields.old) }
+    ensures { Gives (λ x. Ok (x, fields.new)) field_fault result (times record_at count fields.old) }
 {
     let mut records = Items::new(alloc);
     'each: for _ in 0..count {
@@ -74,7 +75,7 @@ fn read_each_record(alloc: Global, count: u32, fields: &mut Fields) -> Result<Re
 
 #[tactic(auto, unfolding(crate::specs::Reading::records_at))]
 fn read_records(alloc: Global, fields: &mut Fields) -> Result<Records, FieldError>
-    ensures { Gives (λ x. (x, fields.new)) result (records_at fields.old) }
+    ensures { Gives (λ x. Ok (x, fields.new)) field_fault result (records_at fields.old) }
 {
     let count = fields.u32_within(0, 1048576)?;
     read_each_record(alloc, count, fields)
@@ -82,7 +83,7 @@ fn read_records(alloc: Global, fields: &mut Fields) -> Result<Records, FieldErro
 
 #[tactic(auto, unfolding(crate::specs::Reading::gathered_at))]
 pub fn read_gathered(alloc: Global, fields: &mut Fields) -> Result<Gathered, FieldError>
-    ensures { Gives (λ x. (x, fields.new)) result (gathered_at fields.old) }
+    ensures { Gives (λ x. Ok (x, fields.new)) field_fault result (gathered_at fields.old) }
 {
     let session = fields.u64()?;
     let served = fields.u64()?;
@@ -100,7 +101,7 @@ pub fn read_gathered(alloc: Global, fields: &mut Fields) -> Result<Gathered, Fie
 
 #[tactic(auto, unfolding(crate::specs::Reading::dumped_at))]
 pub fn read_dumped(alloc: Global, fields: &mut Fields) -> Result<Dumped, FieldError>
-    ensures { Gives (λ x. (x, fields.new)) result (dumped_at fields.old) }
+    ensures { Gives (λ x. Ok (x, fields.new)) field_fault result (dumped_at fields.old) }
 {
     let session = fields.u64()?;
     let region = fields.u16()?;

@@ -1,5 +1,6 @@
-ghost use Rattle.std.specs.Prelude.{◌≡◌, ◌++◌, ◌<◌, ◌^◌, length, OnOk};
-ghost use Rattle.salus_codec.specs.Reading.{Gives, bytes_at, u16_at};
+ghost use Rattle.std.specs.Prelude.{◌≡◌, ◌++◌, ◌<◌, ◌^◌, length, Ok, OnOk};
+ghost use Rattle.salus_types.specs.Outcome.{Gives};
+ghost use Rattle.salus_codec.specs.Reading.{field_fault, bytes_at, u16_at};
 ghost use Rattle.salus_codec.specs.Formats.{times, within, sized};
 ghost use Rattle.salus_codec.specs.Spelling.{be2};
 ghost use Rattle.client_tag.specs.Spelling.{joined};
@@ -25,7 +26,7 @@ pub struct Answer {
 }
 
 fn read_block(alloc: Global, fields: &mut Fields) -> Result<Bytes, FieldError>
-    ensures { Gives (λ x. (x, fields.new)) result (sized (within 1 4096 u16_at) fields.old) }
+    ensures { Gives (λ x. Ok (x, fields.new)) field_fault result (sized (within 1 4096 u16_at) fields.old) }
 {
     let count = fields.u16_within(1, 4096)?;
     let bytes = fields.bytes(count as usize)?;
@@ -34,7 +35,7 @@ fn read_block(alloc: Global, fields: &mut Fields) -> Result<Bytes, FieldError>
 }
 
 fn read_each_digest(alloc: Global, count: u8, fields: &mut Fields) -> Result<Path, FieldError>
-    ensures { Gives (λ x. (x, fields.new)) result (times (bytes_at 32) count fields.old) }
+    ensures { Gives (λ x. Ok (x, fields.new)) field_fault result (times (bytes_at 32) count fields.old) }
 {
     let mut path = Items::new(alloc);
     'each: for _ in 0..count {
@@ -46,7 +47,7 @@ fn read_each_digest(alloc: Global, count: u8, fields: &mut Fields) -> Result<Pat
 
 #[tactic(auto, unfolding(crate::specs::Reading::path_at))]
 fn read_path(alloc: Global, fields: &mut Fields) -> Result<Path, FieldError>
-    ensures { Gives (λ x. (x, fields.new)) result (path_at fields.old) }
+    ensures { Gives (λ x. Ok (x, fields.new)) field_fault result (path_at fields.old) }
 {
     let count = fields.u8_within(0, 12)?;
     read_each_digest(alloc, count, fields)
@@ -54,7 +55,7 @@ fn read_path(alloc: Global, fields: &mut Fields) -> Result<Path, FieldError>
 
 #[tactic(auto, unfolding(crate::specs::Reading::answer_at))]
 pub fn read_answer(alloc: Global, fields: &mut Fields) -> Result<Answer, FieldError>
-    ensures { Gives (λ x. (x, fields.new)) result (answer_at fields.old) }
+    ensures { Gives (λ x. Ok (x, fields.new)) field_fault result (answer_at fields.old) }
 {
     let (session, read, block, at) = read_asked(fields)?;
     let bytes = read_block(alloc, fields)?;

@@ -1,5 +1,6 @@
-ghost use Rattle.std.specs.Prelude.{◌≡◌, ◌++◌, OnOk};
-ghost use Rattle.salus_codec.specs.Reading.{Gives};
+ghost use Rattle.std.specs.Prelude.{◌≡◌, ◌++◌, Ok, OnOk};
+ghost use Rattle.salus_types.specs.Outcome.{Gives};
+ghost use Rattle.salus_codec.specs.Reading.{field_fault};
 ghost use Rattle.salus_message.specs.Spelling.{prepared_bytes, committed_bytes, asked_bytes, ask_bytes, dump_bytes};
 ghost use Rattle.salus_message.specs.Reading.{prepared_at, committed_at, asked_at, ask_at, dump_at};
 
@@ -65,7 +66,7 @@ pub struct Dump {
 
 #[tactic(auto, unfolding(crate::specs::Reading::prepared_at))]
 pub fn read_prepared(fields: &mut Fields) -> Result<Prepared, FieldError>
-    ensures { Gives (λ x. (x, fields.new)) result (prepared_at fields.old) }
+    ensures { Gives (λ x. Ok (x, fields.new)) field_fault result (prepared_at fields.old) }
 {
     let session = fields.u64()?;
     let seq = fields.u64()?;
@@ -81,7 +82,7 @@ pub fn read_prepared(fields: &mut Fields) -> Result<Prepared, FieldError>
 
 #[tactic(auto, unfolding(crate::specs::Reading::committed_at))]
 pub fn read_committed(fields: &mut Fields) -> Result<Committed, FieldError>
-    ensures { Gives (λ x. (x, fields.new)) result (committed_at fields.old) }
+    ensures { Gives (λ x. Ok (x, fields.new)) field_fault result (committed_at fields.old) }
 {
     let session = fields.u64()?;
     let front = fields.u64()?;
@@ -91,7 +92,7 @@ pub fn read_committed(fields: &mut Fields) -> Result<Committed, FieldError>
 /// What a question and its answer begin with.
 #[tactic(auto, unfolding(crate::specs::Reading::asked_at))]
 pub fn read_asked(fields: &mut Fields) -> Result<(u64, u64, u32, u64), FieldError>
-    ensures { Gives (λ x. ((x.0, (x.1, (x.2, x.3))), fields.new)) result (asked_at fields.old) }
+    ensures { Gives (λ x. Ok ((x.0, (x.1, (x.2, x.3))), fields.new)) field_fault result (asked_at fields.old) }
 {
     let session = fields.u64()?;
     let read = fields.u64()?;
@@ -102,7 +103,7 @@ pub fn read_asked(fields: &mut Fields) -> Result<(u64, u64, u32, u64), FieldErro
 
 #[tactic(auto, unfolding(crate::specs::Reading::ask_at))]
 pub fn read_ask(fields: &mut Fields) -> Result<Ask, FieldError>
-    ensures { Gives (λ x. (x, fields.new)) result (ask_at fields.old) }
+    ensures { Gives (λ x. Ok (x, fields.new)) field_fault result (ask_at fields.old) }
 {
     let (session, read, block, at) = read_asked(fields)?;
     Ok(Ask {
@@ -115,7 +116,7 @@ pub fn read_ask(fields: &mut Fields) -> Result<Ask, FieldError>
 
 #[tactic(auto, unfolding(crate::specs::Reading::dump_at))]
 pub fn read_dump(fields: &mut Fields) -> Result<Dump, FieldError>
-    ensures { Gives (λ x. (x, fields.new)) result (dump_at fields.old) }
+    ensures { Gives (λ x. Ok (x, fields.new)) field_fault result (dump_at fields.old) }
 {
     let session = fields.u64()?;
     let region = fields.u16()?;

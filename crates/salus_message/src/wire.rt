@@ -1,10 +1,11 @@
-ghost use Rattle.std.specs.Prelude.{◌≡◌, ◌≤◌, ◌∷◌, ◌++◌, Ok, IfOk, OnOk};
-ghost use Rattle.salus_codec.specs.Reading.{Gives};
+ghost use Rattle.std.specs.Prelude.{◌≡◌, ◌≤◌, ◌∷◌, ◌++◌, Some, Ok, IfOk, OnOk};
+ghost use Rattle.salus_types.specs.Outcome.{Gives};
+ghost use Rattle.salus_codec.specs.Reading.{field_fault};
 ghost use Rattle.salus_message.specs.declared.wire.Message.{Message as AnyMessage};
 ghost use Rattle.salus_message.specs.Kinds.{kind_of, byte_of};
 ghost use Rattle.salus_message.specs.Spelling.{fields_bytes, message_bytes};
 ghost use Rattle.salus_message.specs.Ranges.{IsMessage, HasWidths};
-ghost use Rattle.salus_message.specs.Reading.{fields_at, fault_of, whole, message_at, Decodes};
+ghost use Rattle.salus_message.specs.Reading.{fields_at, fault_of, whole, message_at, message_words, message_fault};
 
 use crate::carried::{
     Dumped, Gathered, Part, Stage, put_dumped, put_gathered, read_dumped, read_gathered,
@@ -19,6 +20,8 @@ use client_tag::{read_base, read_record, write_base, write_record};
 use salus_codec::{FieldError, Fields, put_u64};
 use salus_types::NoMemory;
 use std::alloc::Global;
+use std::error::Error;
+use std::fmt;
 
 /// What goes between client and servers.
 #[derive(Debug, Drop)]
@@ -53,6 +56,22 @@ pub enum MessageError {
     NoMemory,
 }
 
+impl fmt::Display for MessageError {
+    ghost output = { λ error. Some (message_words error) };
+
+    fn fmt<W: fmt::Write>(&self, f: &mut fmt::Formatter<W>) -> fmt::Result {
+        match self {
+            MessageError::Short => write!(f, "too few bytes"),
+            MessageError::Tag => write!(f, "unknown kind"),
+            MessageError::Count => write!(f, "field out of range"),
+            MessageError::Trailing => write!(f, "bytes left over"),
+            MessageError::NoMemory => write!(f, "out of memory"),
+        }
+    }
+}
+
+impl Error for MessageError {}
+
 fn fault(error: FieldError) -> MessageError
     ensures { result ≡ fault_of error }
 {
@@ -64,7 +83,7 @@ fn fault(error: FieldError) -> MessageError
 }
 
 fn read_fields(alloc: Global, kind: Kind, fields: &mut Fields) -> Result<Message, FieldError>
-    ensures { Gives (λ x. (x, fields.new)) result (fields_at kind fields.old) }
+    ensures { Gives (λ x. Ok (x, fields.new)) field_fault result (fields_at kind fields.old) }
 {
     match kind {
         Kind::Part => Ok(Message::Part(Part {
@@ -96,7 +115,7 @@ fn read_fields(alloc: Global, kind: Kind, fields: &mut Fields) -> Result<Message
 }
 
 fn read_whole(alloc: Global, kind: Kind, bytes: &[u8]) -> Result<Message, MessageError>
-    ensures { Decodes result (whole (fields_at kind bytes.now)) }
+    ensures { Gives Ok message_fault result (whole (fields_at kind bytes.now)) }
 {
     let mut fields = Fields::new(bytes);
     match read_fields(alloc, kind, &mut fields) {
@@ -113,7 +132,7 @@ fn read_whole(alloc: Global, kind: Kind, bytes: &[u8]) -> Result<Message, Messag
 
 #[tactic(auto, unfolding(crate::specs::Reading::message_at))]
 fn read_message(alloc: Global, bytes: &[u8]) -> Result<Message, MessageError>
-    ensures { Decodes result (message_at bytes.now) }
+    ensures { Gives Ok message_fault result (message_at bytes.now) }
 {
     match bytes {
         [] => Err(MessageError::Short),
@@ -129,9 +148,9 @@ pub fn decode(alloc: Global, bytes: &[u8]) -> Result<Message, MessageError>
     // What is read is spelled so.
     ensures found { IfOk result (λ m. (bytes.now ≡ message_bytes m) × IsMessage m × HasWidths m) }
     // What is spelled so is read, unless memory runs out.
-    ensures only { (m : AnyMessage) → IsMessage m → HasWidths m → bytes.now ≡ message_bytes m → Decodes result (Ok m) }
+    ensures only { (m : AnyMessage) → IsMessage m → HasWidths m → bytes.now ≡ message_bytes m → Gives Ok message_fault result (Ok m) }
     // Which refusal it is.
-    ensures exact { Decodes result (message_at bytes.now) }
+    ensures exact { Gives Ok message_fault result (message_at bytes.now) }
 {
     read_message(alloc, bytes)
 }

@@ -1,113 +1,94 @@
--- The bytes of a server's answer in session 1, which is what a lie may spell.
-use Rattle.std.specs.Prelude.{◌≡◌, ℕ, zero, suc, ◌^◌, ◌<◌, ◌≤◌, ◌==◌, ◌&&◌, nat_lt, nat_le, if◌then◌else◌, List, [], ◌∷◌, ◌++◌, length, take, drop, slice_index, Option, None, Some}
-use Rattle.std.specs.List.{flat_map, AllByRecursion}
-use Rattle.std.specs.Int.{Width, w16, w32, w64, byte_len, to_be_bytes, from_be_bytes}
-use Rattle.salus_model.specs.declared.message.Answer.{Answer}
+-- What an answer is worth, and what the replicas answered to a question so far.
+use Rattle.std.specs.Prelude.{ℕ, Bool, true, false, ◌==◌, ◌&&◌, ◌||◌, nat_lt, if◌then◌else◌, List, [], ◌∷◌, map, length, is_some, Option, None, Some}
+use Rattle.std.specs.List.{list_all, range_with_len}
+use Rattle.std.specs.Option.{option_or}
+use Rattle.salus_hash.specs.Hash.{leaf}
+use Rattle.salus_types.specs.Volume.{Shape}
+use Rattle.salus_types.specs.declared.names.NodeName.{NodeName}
+use Rattle.salus_types.specs.declared.strike.Strike.{Strike}
+use Rattle.salus_types.specs.declared.strike.Strike.TheVariants as strike
+use Rattle.merkle_region.specs.Tree.{climb, verified}
+use Rattle.salus_message.specs.declared.replies.Answer.{Answer}
+use Rattle.salus_message.specs.declared.wire.Message.TheVariants as message
+use Rattle.volume_model.specs.Contents.{region_of, place_of, region_root}
+use Rattle.volume_model.specs.Parts.{number_of}
+use Rattle.salus_model.specs.Judge.{Judge, last_number, array}
+use Rattle.salus_model.specs.Hearing.{News, Says, Past}
+use Rattle.salus_model.specs.Waiting.{Question, is_asked}
 
--- ---- the spelling
+-- a region's number and root under the batches so far
+abbrev pub present_number : Shape → Judge → ℕ → ℕ
+present_number shape judge g = number_of shape judge.now (last_number judge) g
 
--- the kind of an answer, which is 5, and session 1
-abbrev pub answer_mark : List ℕ
-answer_mark = 5 ∷ to_be_bytes w64 1
+unfoldable pub present_root : Shape → Judge → ℕ → List ℕ
+present_root shape judge g = region_root shape (array judge) g
 
--- the read's number, the block's number, and the number that the answer is of; the highest byte comes first
-abbrev pub numbers_bytes : ℕ → ℕ → ℕ → List ℕ
-numbers_bytes read block at = to_be_bytes w64 read ++ (to_be_bytes w32 block ++ to_be_bytes w64 at)
+-- ---- the worth of one answer
 
--- the block behind its length
-abbrev pub block_bytes : List ℕ → List ℕ
-block_bytes bytes = to_be_bytes w16 (length bytes) ++ bytes
+-- It is of an older number; or its block is the present one; or its replica is struck.
+pub data Verdict : Type 0 where
+  Stale : Verdict
+  Good : Verdict
+  Struck : Strike → Verdict
 
--- the path behind its count
-abbrev pub path_bytes : List (List ℕ) → List ℕ
-path_bytes path = length path ∷ flat_map (λ digest. digest) path
+-- its sender is of the block's group, and block and path are as long as the volume's
+abbrev pub is_fitting : Shape → NodeName → Answer → Bool
+is_fitting shape name a = (name.region == region_of shape a.block) && (length a.bytes == shape.block) && (length a.path == shape.height)
 
--- the one spelling of an answer
-unfoldable pub answer_bytes : Answer → List ℕ
-answer_bytes a = answer_mark ++ (numbers_bytes a.read a.block a.at ++ (block_bytes a.bytes ++ path_bytes a.path))
+-- an answer of the present number is good if its path leads to the present root
+abbrev pub verdict_present : Shape → List ℕ → Answer → Verdict
+verdict_present shape root a =
+    if verified root shape.height (place_of shape a.block) a.bytes a.path then Good
+    else Struck (strike.Bad root (climb (place_of shape a.block) (leaf a.bytes) a.path))
 
--- each is a byte
-abbrev pub AreBytes : List ℕ → Type 0
-AreBytes bytes = (i : ℕ) → slice_index bytes i < 256
+abbrev pub verdict_at : Shape → List ℕ → ℕ → Answer → Verdict
+verdict_at shape root number a =
+    if nat_lt a.at number then Stale
+    else if nat_lt number a.at then Struck (strike.Past a.at number)
+    else verdict_present shape root a
 
-abbrev pub IsDigest : List ℕ → Type 0
-IsDigest digest = (length digest ≡ 32) × AreBytes digest
+abbrev pub verdict_of : Shape → Judge → Answer → Verdict
+verdict_of shape judge a = verdict_at shape (present_root shape judge (region_of shape a.block)) (present_number shape judge (region_of shape a.block)) a
 
--- The answers that have a spelling: the numbers fit their widths, the block has 1 to 4,096 bytes, and the path at
--- most 12 digests.
-pub record HasSpelling (a : Answer) : Type 0 where
-  pub read : a.read < 2 ^ 64
-  pub block : a.block < 2 ^ 32
-  pub at : a.at < 2 ^ 64
-  pub some : 1 ≤ length a.bytes
-  pub most : length a.bytes ≤ 4096
-  pub bytes : AreBytes a.bytes
-  pub levels : length a.path ≤ 12
-  pub digests : AllByRecursion IsDigest a.path
+-- ---- the answers to a question
 
--- ---- the meaning
+-- the node answers that question, in the session served
+abbrev pub is_answer : Shape → Judge → Question → NodeName → Answer → Bool
+is_answer shape judge q name a =
+    (a.session == judge.now.session) && (a.read == q.number) && (a.block == q.block) && is_fitting shape name a
 
--- a field at the front of the bytes: its value and the bytes after it, or none where it isn't there
-abbrev pub Field : Type 0 → Type 0
-Field A = Option (A × List ℕ)
+-- what news is worth to a question, with the replica that it comes from
+abbrev pub verdict_in : Shape → Judge → Question → News → Option (ℕ × Verdict)
+verdict_in shape judge q (Says name (message.Answer a)) = if is_answer shape judge q name a then Some (name.replica, verdict_of shape judge a) else None
+verdict_in shape judge q other = None
 
--- then the fields after it
-infixl 10 ◌>>=◌
-abbrev pub ◌>>=◌ : {A B : Type 0} → Option A → (A → Option B) → Option B
-(Some x) >>= f = f x
-None >>= f = None
+abbrev pub is_good : Option (ℕ × Verdict) → Bool
+is_good (Some (r, Good)) = true
+is_good other = false
 
-abbrev pub byte_at : List ℕ → Field ℕ
-byte_at [] = None
-byte_at (byte ∷ rest) = Some (byte, rest)
+abbrev pub strike_by : ℕ → Option (ℕ × Verdict) → Option Strike
+strike_by r (Some (by, Struck s)) = if by == r then Some s else None
+strike_by r other = None
 
-abbrev pub bytes_at : ℕ → List ℕ → Field (List ℕ)
-bytes_at count bytes = if nat_lt (length bytes) count then None else Some (take count bytes, drop count bytes)
+-- what a step was worth to a question, if the question was asked then
+abbrev pub verdict_then : Shape → Question → List Past → Past → Option (ℕ × Verdict)
+verdict_then shape q history p = if is_asked shape history p.before q then verdict_in shape p.before q p.news else None
 
-abbrev pub number_at : Width → List ℕ → Field ℕ
-number_at w bytes =
-    if nat_lt (length bytes) (byte_len w) then None else Some (from_be_bytes w (take (byte_len w) bytes), drop (byte_len w) bytes)
+-- a good answer came to the question while it was asked
+unfoldable pub is_known : Shape → Question → List Past → Bool
+is_known shape q [] = false
+is_known shape q (p ∷ history) = is_known shape q history || is_good (verdict_then shape q history p)
 
--- what stands after the mark of an answer in session 1
-unfoldable pub after_mark : List ℕ → Option (List ℕ)
-after_mark bytes = do
-  kind ← byte_at bytes
-  session ← number_at w64 kind.1
-  if (kind.0 == 5) && (session.0 == 1) then Some session.1 else None
+-- the first strike of a replica at the question
+unfoldable pub first_strike : Shape → Question → ℕ → List Past → Option Strike
+first_strike shape q r [] = None
+first_strike shape q r (p ∷ history) = option_or (first_strike shape q r history) (strike_by r (verdict_then shape q history p))
 
--- the read's number, the block's, and the number that the answer is of
-unfoldable pub numbers_at : List ℕ → Field (ℕ × ℕ × ℕ)
-numbers_at bytes = do
-  read ← number_at w64 bytes
-  block ← number_at w32 read.1
-  at ← number_at w64 block.1
-  Some ((read.0, block.0, at.0), at.1)
+-- the first strike of each replica, with one more
+abbrev pub strikes_with : Shape → Question → List Past → ℕ → Strike → List (Option Strike)
+strikes_with shape q history by s =
+    map (λ r. option_or (first_strike shape q r history) (if by == r then Some s else None)) (range_with_len 0 shape.replicas)
 
--- a block of 1 to 4,096 bytes behind its length
-unfoldable pub block_at : List ℕ → Field (List ℕ)
-block_at bytes = do
-  size ← number_at w16 bytes
-  if nat_le 1 size.0 && nat_le size.0 4096 then bytes_at size.0 size.1 else None
-
--- so many digests, one after another
-unfoldable pub digests_at : ℕ → List ℕ → Field (List (List ℕ))
-digests_at zero bytes = Some ([], bytes)
-digests_at (suc n) bytes = do
-  digest ← bytes_at 32 bytes
-  others ← digests_at n digest.1
-  Some (digest.0 ∷ others.0, others.1)
-
--- a path of at most 12 digests behind its count
-unfoldable pub path_at : List ℕ → Field (List (List ℕ))
-path_at bytes = do
-  count ← byte_at bytes
-  if nat_le count.0 12 then digests_at count.0 count.1 else None
-
--- the answer that the bytes spell, each of them, if they spell one
-unfoldable pub answer_of : List ℕ → Option Answer
-answer_of bytes = do
-  rest ← after_mark bytes
-  numbers ← numbers_at rest
-  block ← block_at numbers.1
-  path ← path_at block.1
-  if length path.1 == 0 then Some (record { read = numbers.0.0; block = numbers.0.1; at = numbers.0.2; bytes = block.0; path = path.0 }) else None
+-- every replica is struck
+abbrev pub all_struck : List (Option Strike) → Bool
+all_struck strikes = list_all (λ s. is_some s) strikes

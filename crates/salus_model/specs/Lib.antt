@@ -1,6 +1,14 @@
-pub mod Contents
-pub mod Answering
 pub mod Judge
 pub mod Following
+pub mod Hearing
+pub mod Waiting
+pub mod Answering
+pub mod Opening
 pub mod Due
 pub mod Seen
+pub mod Forgery
+pub mod Guarding
+pub mod Quiet
+pub mod Complete
+pub mod Covering
+pub mod Licences

@@ -1,63 +1,62 @@
 -- The strings whose digests a run shows, and the premise that no two different ones share a digest.
-use Rattle.std.specs.Prelude.{ℕ, if◌then◌else◌, List, [], ◌∷◌, ◌++◌, Option, None, Some}
+use Rattle.std.specs.Prelude.{ℕ, if◌then◌else◌, List, [], ◌∷◌, ◌++◌, flat_map}
+use Rattle.salus_types.specs.Volume.{Shape}
+use Rattle.salus_message.specs.declared.wire.Message.{Message}
+use Rattle.salus_message.specs.declared.wire.Message.TheVariants as message
 use Rattle.merkle_region.specs.Tree.{tree_strings, path_strings, NoTwoCollide}
-use Rattle.salus_model.specs.declared.schedule.Volume.{Volume}
-use Rattle.salus_model.specs.declared.schedule.Event.{Event}
-use Rattle.salus_model.specs.declared.message.Answer.{Answer}
-use Rattle.salus_model.specs.declared.message.Message.{Message}
-use Rattle.salus_model.specs.declared.message.Message.TheVariants as message
-use Rattle.salus_model.specs.declared.message.Sent.{Sent}
-use Rattle.salus_model.specs.declared.line.Line.{Line}
-use Rattle.salus_model.specs.declared.trace.Handed.{Handed}
-use Rattle.salus_model.specs.declared.trace.Handed.TheVariants as handed
+use Rattle.schedule_text.specs.declared.schedule.Volume.{Volume}
+use Rattle.schedule_text.specs.declared.schedule.Event.{Event}
 use Rattle.salus_model.specs.declared.trace.TraceStep.{TraceStep}
-use Rattle.salus_model.specs.Answering.{answer_of}
-use Rattle.salus_model.specs.Following.{message_at}
-use Rattle.salus_model.specs.Judge.{Judge, start_judge, judged, array}
-use Rattle.salus_model.specs.Due.{is_client, lines_due}
+use Rattle.volume_model.specs.Contents.{Batch, place_of, all_regions, apply, contents_strings}
+use Rattle.salus_model.specs.Judge.{Judge, all_known}
+use Rattle.salus_model.specs.Following.{Posted}
+use Rattle.salus_model.specs.Hearing.{News, Says, Past, judge_of}
+use Rattle.holding_model.specs.Fitting.{has_shape}
+use Rattle.salus_model.specs.Due.{history_from}
 
--- the strings of the tree over the array
-abbrev pub array_strings : Volume → Judge → List (List ℕ)
-array_strings volume judge = tree_strings volume.height (array volume judge)
+-- ---- the arrays
 
--- those of the array at first and after each line, so after every batch of the list
-unfoldable pub strings_along : Volume → List Event → Judge → List Line → List (List ℕ)
-strings_along volume events judge [] = array_strings volume judge
-strings_along volume events judge (l ∷ ls) = array_strings volume judge ++ strings_along volume events (judged events judge l) ls
+-- those of the contents at first and after each batch
+unfoldable pub strings_along : Shape → List (List ℕ) → List Batch → List (List ℕ)
+strings_along shape contents [] = contents_strings shape contents
+strings_along shape contents (batch ∷ batches) = contents_strings shape contents ++ strings_along shape (apply contents batch) batches
 
--- those of an answer's block with its path
-abbrev pub answer_strings : Option Answer → List (List ℕ)
-answer_strings None = []
-answer_strings (Some a) = path_strings a.block a.bytes a.path
+-- those of every front part of every list that is known
+unfoldable pub known_strings : Shape → Judge → List (List ℕ)
+known_strings shape judge = flat_map (λ known. strings_along shape known.origin known.list) (all_known judge)
 
-abbrev pub carried_answer : Message → Option Answer
-carried_answer (message.Part s p x) = None
-carried_answer (message.Ask r b s) = None
-carried_answer (message.Answer a) = Some a
+-- ---- what nodes showed
 
-abbrev pub delivered_answer : Option Sent → Option Answer
-delivered_answer None = None
-delivered_answer (Some m) = carried_answer m.message
+-- those of a region's blocks, if they have its shape
+abbrev pub blocks_strings : Shape → List (List ℕ) → List (List ℕ)
+blocks_strings shape blocks = if has_shape shape blocks then tree_strings shape.height blocks else []
 
--- the answer that a step hands over, in a message or spelled by a lie
-abbrev pub handed_answer : List Sent → Handed → Option Answer
-handed_answer sent (handed.Asked r) = None
-handed_answer sent (handed.Deliver k) = delivered_answer (message_at sent k)
-handed_answer sent (handed.Lie bytes) = answer_of bytes
+-- those of the block and path of an answer, and of the blocks of a base or a region
+abbrev pub message_strings : Shape → Message → List (List ℕ)
+message_strings shape (message.Answer m) = path_strings (place_of shape m.block) m.bytes m.path
+message_strings shape (message.Gathered m) = flat_map (λ base. blocks_strings shape base.blocks) m.held.bases
+message_strings shape (message.Dumped m) = blocks_strings shape m.blocks
+message_strings shape other = []
 
-abbrev pub step_strings : List Sent → TraceStep → List (List ℕ)
-step_strings sent step = if is_client step.party then answer_strings (handed_answer sent step.handed) else []
+abbrev pub news_strings : Shape → News → List (List ℕ)
+news_strings shape (Says name m) = message_strings shape m
+news_strings shape other = []
 
--- those of every answer in the inbox
-unfoldable pub inbox_strings : List Sent → List TraceStep → List (List ℕ)
-inbox_strings sent [] = []
-inbox_strings sent (step ∷ steps) = step_strings sent step ++ inbox_strings sent steps
+-- ---- all of them
 
--- the strings seen: those of the array after every batch, and those of every answer that reached the client
-abbrev pub seen_strings : Volume → List Event → List Sent → List TraceStep → List (List ℕ)
-seen_strings volume events sent trace =
-    strings_along volume events start_judge (lines_due volume events sent trace) ++ inbox_strings sent trace
+-- at one step: those of the lists that are known before it, and of what it shows
+abbrev pub strings_at : Shape → Past → List (List ℕ)
+strings_at shape p = known_strings shape p.before ++ news_strings shape p.news
+
+-- at each step of the history
+unfoldable pub strings_of : Shape → List Past → List (List ℕ)
+strings_of shape [] = []
+strings_of shape (p ∷ history) = strings_at shape p ++ strings_of shape history
+
+-- and of the lists that are known after it
+abbrev pub seen_strings : Shape → List Event → List Past → List (List ℕ)
+seen_strings shape events history = known_strings shape (judge_of shape events history) ++ strings_of shape history
 
 -- no two different strings seen share a SHA-256 digest
-abbrev pub NoCollision : Volume → List Event → List Sent → List TraceStep → Type 0
-NoCollision volume events sent trace = NoTwoCollide (seen_strings volume events sent trace)
+abbrev pub NoCollision : Volume → List Event → List Posted → List TraceStep → Type 0
+NoCollision volume events posts trace = NoTwoCollide (seen_strings volume.geometry events (history_from volume events posts [] trace))

@@ -1,14 +1,10 @@
-//! What the promises of Salus speak of: a schedule, the messages of a run, its trace and the printed lines, as
-//! plain values. `specs/` has the definitions over them: contents, a legal history, the lines that are due, the
-//! strings that are seen, the grammar of a schedule. None of them cites a core, a machine or the world.
+//! What the promises of Salus speak of: the messages of a run and its trace, as plain values. `specs/` has the
+//! definitions over them, from the legal history of one array to the lines that are due. None of them cites a core, a
+//! machine or the world.
 #![tactic(auto)]
 
-pub mod line;
-pub mod message;
-pub mod schedule;
+pub mod sending;
 pub mod trace;
 
-pub use line::{Line, Lines, RequestRefusal};
-pub use message::{Answer, Message, Messages, Sent};
-pub use schedule::{Event, Events, Schedule, Volume};
+pub use sending::{Messages, Sent};
 pub use trace::{Handed, Request, Trace, TraceStep};

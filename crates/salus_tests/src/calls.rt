@@ -1,6 +1,6 @@
 use merkle_region::{path_of, root, verifies};
-use salus_model::Answer;
 use salus_types::{Bytes, Items, NoMemory};
+use small_model::Answer;
 use spelled_answer::read_answer;
 use std::alloc::Global;
 

@@ -5,10 +5,18 @@
 #[cfg(test)]
 mod calls;
 #[cfg(test)]
+mod certificates;
+#[cfg(test)]
 mod codec;
 #[cfg(test)]
 mod disks;
 #[cfg(test)]
+mod pruned;
+#[cfg(test)]
 mod replay;
 #[cfg(test)]
 mod schedules;
+#[cfg(test)]
+mod tags;
+#[cfg(test)]
+mod trees;

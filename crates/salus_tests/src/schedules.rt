@@ -1,9 +1,8 @@
 //! The schedule language and the printed lines, by examples: texts that are refused, with the line and the cause; a
 //! text of every event, read, looked at and printed again; and each printed line.
 
-use printed_lines::write_line;
+use printed_lines::{Line, RequestRefusal, write_line};
 use salus_hash::Digest;
-use salus_model::{Line, RequestRefusal};
 use salus_types::{Items, NoMemory, NodeName, Sender, Strike, Write};
 use schedule_text::{Cause, Event, ParseError, parse, print};
 use std::alloc::Global;

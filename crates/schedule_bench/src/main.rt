@@ -28,7 +28,7 @@ fn measure(rt: &impl Runtime, alloc: Global, text: &[u8]) -> io::Result<()> {
             )
         }
         Err(ParseError::Refused(error)) => {
-            println!(rt; "line {} is wrong: {:?}", error.line, error.cause)
+            println!(rt; "line {} is wrong: {}", error.line, error.cause)
         }
         Err(ParseError::NoMemory) => println!(rt; "no memory"),
     }

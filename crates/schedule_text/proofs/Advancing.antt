@@ -1,6 +1,6 @@
 -- What a line that is read adds to the lines after it.
 use Rattle.std.proofs.Common.{◌≡◌, ℕ, ◌+◌, ◌<◌, ◌≤◌, Bool, true, false, cond, ltb, List, [], ◌∷◌, ◌++◌, length, refl, sym, ap, ◌∙◌, arith, append_assoc, append-nil}
-use Rattle.std.specs.Prelude.{Result, Ok, Err}
+use Rattle.std.specs.Prelude.{IfSome, Result, Ok, Err}
 use Rattle.std.proofs.lemmas.Bool.{ltb-false}
 use Rattle.salus_types.specs.Volume.{Shape}
 use Rattle.text_words.specs.Reading.{front, past, lines_left}
@@ -11,7 +11,7 @@ use Rattle.schedule_text.specs.declared.error.ScheduleError.{ScheduleError}
 use Rattle.schedule_text.specs.declared.error.ParseError.{ParseError}
 use Rattle.schedule_text.specs.declared.error.ParseError.TheVariants as error
 use Rattle.schedule_text.specs.declared.schedule.Event.{Event}
-use Rattle.schedule_text.specs.Outcome.{FailsText}
+use Rattle.schedule_text.specs.Outcome.{text_fault}
 use Rattle.schedule_text.specs.Reading.{after, at_line, next_event, numbered_event, latest_after, after_events, events_from}
 
 pub events-nil : (r : Result (List Event) ScheduleError) → after_events [] r ≡ r
@@ -66,6 +66,6 @@ event-within shape latest line words e h = by (ltb 65537 line) refl h
     by false is found = ltb-false 65537 line is
 
 pub fails-too : {X Y : Type 0} (e : ParseError) (m : Result X ScheduleError) (n : Result Y ScheduleError) → ((wrong : ScheduleError) → m ≡ Err wrong → n ≡ Err wrong)
-    → FailsText e m → FailsText e n
+    → IfSome (text_fault e) (λ refused. m ≡ refused) → IfSome (text_fault e) (λ refused. n ≡ refused)
 fails-too (error.Refused wrong) m n f h = f wrong h
 fails-too error.NoMemory m n f h = tt

@@ -2,6 +2,7 @@
 use Rattle.std.proofs.Common.{◌≡◌, ℕ, List, [], ◌∷◌, subst}
 use Rattle.std.specs.Prelude.{Result, Ok, Err, IfOk, IfErr}
 use Rattle.std.specs.List.{AllByRecursion, AllZip}
+use Rattle.salus_types.specs.Outcome.{Gives}
 use Rattle.salus_types.specs.Volume.{Shape}
 use Rattle.salus_types.specs.declared.names.Sender.{Sender}
 use Rattle.salus_types.specs.declared.names.Sender.TheVariants as sender
@@ -13,7 +14,7 @@ use Rattle.schedule_text.specs.declared.schedule.Event.{Event}
 use Rattle.schedule_text.specs.declared.schedule.Schedule.{Schedule}
 use Rattle.schedule_text.specs.Grammar.{Value, Number, Count, Node, Party, Block, Bytes, Fill, Spells, IsParty, values, IsEventLine, IsSchedule, IsFirstWrong}
 use Rattle.schedule_text.specs.Limits.{IsPartyOfVolume, IsWithin, IsEventWithin, IsWithinLimits}
-use Rattle.schedule_text.specs.Outcome.{GivesText, Refuses}
+use Rattle.schedule_text.specs.Outcome.{text_fault, RefusesText}
 use Rattle.schedule_text.specs.Reading.{schedule_of}
 use Rattle.schedule_text.proofs.Wholly.{schedule-sound, schedule-only, wrong-sound, wrong-only, one_schedule, wrong-none}
 
@@ -60,25 +61,25 @@ within_limits text s w =
 
 -- ---- the answers
 
-pub told-found : (text : List ℕ) (r : Result Schedule ParseError) → GivesText r (schedule_of text) → IfOk r (IsSchedule text)
+pub told-found : (text : List ℕ) (r : Result Schedule ParseError) → Gives Ok text_fault r (schedule_of text) → IfOk r (IsSchedule text)
 told-found text (Ok s) h = schedule-sound text s h
 told-found text (Err e) h = tt
 
-pub told-one : (text : List ℕ) (r : Result Schedule ParseError) → GivesText r (schedule_of text) → IfOk r (λ s. (other : Schedule) → IsSchedule text other → other ≡ s)
+pub told-one : (text : List ℕ) (r : Result Schedule ParseError) → Gives Ok text_fault r (schedule_of text) → IfOk r (λ s. (other : Schedule) → IsSchedule text other → other ≡ s)
 told-one text (Ok s) h = λ other w. one_schedule text s other (schedule-sound text s h) w
 told-one text (Err e) h = tt
 
-pub told-only : (text : List ℕ) (r : Result Schedule ParseError) → GivesText r (schedule_of text) → (s : Schedule) → IsSchedule text s → GivesText r (Ok s)
-told-only text r h s w = subst (GivesText r) (schedule-only text s w) h
+pub told-only : (text : List ℕ) (r : Result Schedule ParseError) → Gives Ok text_fault r (schedule_of text) → (s : Schedule) → IsSchedule text s → Gives Ok text_fault r (Ok s)
+told-only text r h s w = subst (Gives Ok text_fault r) (schedule-only text s w) h
 
-pub told-refused : (text : List ℕ) (r : Result Schedule ParseError) → GivesText r (schedule_of text) → IfErr r (Refuses text)
+pub told-refused : (text : List ℕ) (r : Result Schedule ParseError) → Gives Ok text_fault r (schedule_of text) → IfErr r (RefusesText text)
 told-refused text (Ok s) h = tt
 told-refused text (Err (error.Refused wrong)) h = (wrong-sound text wrong h, λ s w. wrong-none text wrong s (wrong-sound text wrong h) w)
 told-refused text (Err error.NoMemory) h = tt
 
-pub told-first : (text : List ℕ) (r : Result Schedule ParseError) → GivesText r (schedule_of text) → (wrong : ScheduleError) → IsFirstWrong text wrong → GivesText {X = Schedule} r (Err wrong)
-told-first text r h wrong w = subst (GivesText r) (wrong-only text wrong w) h
+pub told-first : (text : List ℕ) (r : Result Schedule ParseError) → Gives Ok text_fault r (schedule_of text) → (wrong : ScheduleError) → IsFirstWrong text wrong → Gives Ok text_fault r (Err wrong)
+told-first text r h wrong w = subst (Gives Ok text_fault r) (wrong-only text wrong w) h
 
-pub told-limits : (text : List ℕ) (r : Result Schedule ParseError) → GivesText r (schedule_of text) → IfOk r IsWithinLimits
+pub told-limits : (text : List ℕ) (r : Result Schedule ParseError) → Gives Ok text_fault r (schedule_of text) → IfOk r IsWithinLimits
 told-limits text (Ok s) h = within_limits text s (schedule-sound text s h)
 told-limits text (Err e) h = tt

@@ -1,5 +1,6 @@
-ghost use Rattle.std.specs.Prelude.{◌≡◌, map};
-ghost use Rattle.schedule_text.specs.Outcome.{Gives};
+ghost use Rattle.std.specs.Prelude.{◌≡◌, map, Ok};
+ghost use Rattle.salus_types.specs.Outcome.{Gives};
+ghost use Rattle.schedule_text.specs.Outcome.{line_fault};
 ghost use Rattle.schedule_text.specs.Reading.{pair_of, writes_of, write_of};
 
 use crate::error::{Cause, LineError};
@@ -9,7 +10,7 @@ use salus_types::{Batch, Write};
 use std::alloc::Global;
 
 fn pair_of(alloc: Global, size: u32, number: &[u8], block: &[u8]) -> Result<Write, LineError>
-    ensures { Gives result (pair_of size number.now block.now) }
+    ensures { Gives Ok line_fault result (pair_of size number.now block.now) }
 {
     let number = number_word(number)?;
     let bytes = block_word(alloc, size, block)?;
@@ -22,7 +23,7 @@ fn pair_of(alloc: Global, size: u32, number: &[u8], block: &[u8]) -> Result<Writ
 // Pairs of a block's number and its bytes.
 #[tactic(auto, unfolding(crate::specs::Reading::writes_of))]
 fn writes_of(alloc: Global, size: u32, words: &[&[u8]]) -> Result<Batch, LineError>
-    ensures { Gives result (writes_of size (map (λ word. word.now) words.now)) }
+    ensures { Gives Ok line_fault result (writes_of size (map (λ word. word.now) words.now)) }
 {
     let mut writes = Batch::new(alloc);
     let mut rest = words;
@@ -40,7 +41,7 @@ fn writes_of(alloc: Global, size: u32, words: &[&[u8]]) -> Result<Batch, LineErr
 /// A write of 1 to 64 blocks, by the words behind `write`.
 #[tactic(auto, unfolding(crate::specs::Reading::write_of))]
 pub fn write_of(alloc: Global, size: u32, words: &[&[u8]]) -> Result<Event, LineError>
-    ensures { Gives result (write_of size (map (λ word. word.now) words.now)) }
+    ensures { Gives Ok line_fault result (write_of size (map (λ word. word.now) words.now)) }
 {
     if words.len() > 128 {
         return Err(LineError::Wrong(Cause::Long));

@@ -1,8 +1,10 @@
-ghost use Rattle.std.specs.Prelude.{◌≡◌};
+ghost use Rattle.std.specs.Prelude.{◌≡◌, Some};
+ghost use Rattle.schedule_text.specs.Outcome.{cause_word};
 ghost use Rattle.schedule_text.specs.declared.error.LineError.TheVariants as failure;
 ghost use Rattle.schedule_text.specs.declared.error.ParseError.TheVariants as error;
 
 use salus_types::NoMemory;
+use std::fmt;
 
 /// Why a line is wrong. Where a line is wrong in several ways, the first of `Long`, `Empty`, `Word`, then that of the
 /// first wrong word, and `Order` last, is its cause.
@@ -26,6 +28,25 @@ pub enum Cause {
     Order,
     /// More than 67,108,864 bytes, 65,536 events, or 64 blocks in a write.
     Long,
+}
+
+/// The cause's name in lower case.
+impl fmt::Display for Cause {
+    ghost output = { λ cause. Some (cause_word cause) };
+
+    fn fmt<W: fmt::Write>(&self, f: &mut fmt::Formatter<W>) -> fmt::Result {
+        match self {
+            Cause::Volume => write!(f, "volume"),
+            Cause::Word => write!(f, "word"),
+            Cause::Number => write!(f, "number"),
+            Cause::Node => write!(f, "node"),
+            Cause::Hex => write!(f, "hex"),
+            Cause::Size => write!(f, "size"),
+            Cause::Empty => write!(f, "empty"),
+            Cause::Order => write!(f, "order"),
+            Cause::Long => write!(f, "long"),
+        }
+    }
 }
 
 /// The first wrong line of a text, counted from 1, and why it is wrong. Line 0 is a text that is too long.

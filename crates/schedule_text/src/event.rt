@@ -1,5 +1,6 @@
-ghost use Rattle.std.specs.Prelude.{◌≡◌, map};
-ghost use Rattle.schedule_text.specs.Outcome.{Gives};
+ghost use Rattle.std.specs.Prelude.{◌≡◌, map, Ok};
+ghost use Rattle.salus_types.specs.Outcome.{Gives};
+ghost use Rattle.schedule_text.specs.Outcome.{line_fault};
 ghost use Rattle.schedule_text.specs.Reading.{bare, one_number, replace_of, tick_of, fail_of, reassign_of, lie_of, crash_of, stop_of, event_of, after};
 ghost use Rattle.schedule_text.specs.declared.schedule.Event.TheVariants as event;
 
@@ -115,7 +116,7 @@ fn stop_of(words: &[&[u8]]) -> Result<Event, Cause>
 }
 
 fn lie_of(alloc: Global, geometry: &Geometry, words: &[&[u8]]) -> Result<Event, LineError>
-    ensures { Gives result (lie_of geometry.now (map (λ word. word.now) words.now)) }
+    ensures { Gives Ok line_fault result (lie_of geometry.now (map (λ word. word.now) words.now)) }
 {
     match words {
         [from, to, bytes] => {
@@ -136,7 +137,7 @@ pub fn event_of(
     first: Keyword,
     words: &[&[u8]],
 ) -> Result<Event, LineError>
-    ensures { Gives result (event_of geometry.now first (map (λ word. word.now) words.now)) }
+    ensures { Gives Ok line_fault result (event_of geometry.now first (map (λ word. word.now) words.now)) }
 {
     let event = match first {
         Keyword::Write => return write_of(alloc, geometry.block_size(), words),

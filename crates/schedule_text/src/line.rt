@@ -1,5 +1,6 @@
-ghost use Rattle.std.specs.Prelude.{◌≡◌, map};
-ghost use Rattle.schedule_text.specs.Outcome.{Gives};
+ghost use Rattle.std.specs.Prelude.{◌≡◌, map, Ok};
+ghost use Rattle.salus_types.specs.Outcome.{Gives};
+ghost use Rattle.schedule_text.specs.Outcome.{line_fault};
 ghost use Rattle.schedule_text.specs.Reading.{known_event, words_event, excess_cause, line_event};
 
 use crate::error::{Cause, LineError};
@@ -25,7 +26,7 @@ fn excess_cause(line: &[u8]) -> Cause
 }
 
 fn words_event(alloc: Global, geometry: &Geometry, words: &[&[u8]]) -> Result<Event, LineError>
-    ensures { Gives result (words_event geometry.now (map (λ word. word.now) words.now)) }
+    ensures { Gives Ok line_fault result (words_event geometry.now (map (λ word. word.now) words.now)) }
 {
     match words {
         [first, rest @ ..] => match keyword_of(first) {
@@ -39,7 +40,7 @@ fn words_event(alloc: Global, geometry: &Geometry, words: &[&[u8]]) -> Result<Ev
 /// The event of a line.
 #[tactic(auto, unfolding(crate::specs::Reading::line_event))]
 pub fn line_event(alloc: Global, geometry: &Geometry, line: &[u8]) -> Result<Event, LineError>
-    ensures { Gives result (line_event geometry.now line.now) }
+    ensures { Gives Ok line_fault result (line_event geometry.now line.now) }
 {
     if count_words(line) > MOST_WORDS {
         return Err(LineError::Wrong(excess_cause(line)));

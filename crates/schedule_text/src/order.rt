@@ -1,6 +1,7 @@
-ghost use Rattle.std.specs.Prelude.{◌≡◌};
+ghost use Rattle.std.specs.Prelude.{◌≡◌, Ok};
 ghost use Rattle.schedule_text.specs.Grammar.{session_of};
-ghost use Rattle.schedule_text.specs.Outcome.{Gives};
+ghost use Rattle.salus_types.specs.Outcome.{Gives};
+ghost use Rattle.schedule_text.specs.Outcome.{line_fault};
 ghost use Rattle.schedule_text.specs.Reading.{is_above, latest_after, next_event};
 
 use crate::error::{Cause, LineError};
@@ -43,7 +44,7 @@ pub fn next_event(
     latest: u64,
     line: &[u8],
 ) -> Result<Event, LineError>
-    ensures { Gives result (next_event geometry.now latest line.now) }
+    ensures { Gives Ok line_fault result (next_event geometry.now latest line.now) }
 {
     let event = line_event(alloc, geometry, line)?;
     if is_above(latest, session_of(&event)) {

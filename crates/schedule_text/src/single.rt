@@ -1,6 +1,7 @@
-ghost use Rattle.std.specs.Prelude.{◌≡◌};
+ghost use Rattle.std.specs.Prelude.{◌≡◌, Ok};
 ghost use Rattle.schedule_text.specs.Reading.{number_word, count_word, node_word, party_word, fill_word, bytes_word, block_word, block_cause};
-ghost use Rattle.schedule_text.specs.Outcome.{Gives};
+ghost use Rattle.salus_types.specs.Outcome.{Gives};
+ghost use Rattle.schedule_text.specs.Outcome.{line_fault};
 
 use crate::error::{Cause, LineError};
 use crate::names::{node_of, party_of};
@@ -50,7 +51,7 @@ pub fn fill_word(word: &[u8]) -> Result<u8, Cause>
 
 /// The bytes of a lie.
 pub fn bytes_word(alloc: Global, word: &[u8]) -> Result<Bytes, LineError>
-    ensures { Gives result (bytes_word word.now) }
+    ensures { Gives Ok line_fault result (bytes_word word.now) }
 {
     match lie_bytes_of(alloc, word)? {
         Some(bytes) => Ok(bytes),
@@ -70,7 +71,7 @@ fn block_cause(word: &[u8]) -> Cause
 
 /// A block of the volume.
 pub fn block_word(alloc: Global, size: u32, word: &[u8]) -> Result<Bytes, LineError>
-    ensures { Gives result (block_word size word.now) }
+    ensures { Gives Ok line_fault result (block_word size word.now) }
 {
     match block_of(alloc, size, word)? {
         Some(bytes) => Ok(bytes),

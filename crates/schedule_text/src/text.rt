@@ -1,10 +1,11 @@
-ghost use Rattle.std.specs.Prelude.{◌≡◌, IfErr, IfOk};
+ghost use Rattle.std.specs.Prelude.{◌≡◌, Ok, Err, IfErr, IfOk};
 ghost use Rattle.text_words.specs.Reading.{lines_left};
 ghost use Rattle.schedule_text.specs.declared.schedule.Schedule.{Schedule};
 ghost use Rattle.schedule_text.specs.declared.error.ScheduleError.{ScheduleError};
 ghost use Rattle.schedule_text.specs.Grammar.{IsFirstWrong, IsSchedule};
 ghost use Rattle.schedule_text.specs.Limits.{IsWithinLimits};
-ghost use Rattle.schedule_text.specs.Outcome.{GivesText, Refuses};
+ghost use Rattle.salus_types.specs.Outcome.{Gives};
+ghost use Rattle.schedule_text.specs.Outcome.{text_fault, RefusesText};
 ghost use Rattle.schedule_text.specs.Reading.{numbered_event, events_from, schedule_of};
 ghost use Rattle.schedule_text.specs.declared.error.ParseError.TheVariants as error;
 
@@ -36,7 +37,7 @@ fn numbered_event(
     line: u64,
     words: &[u8],
 ) -> Result<Event, ParseError>
-    ensures { GivesText result (numbered_event geometry.now latest line words.now) }
+    ensures { Gives Ok text_fault result (numbered_event geometry.now latest line words.now) }
 {
     if line > LAST_LINE {
         return Err(refused(line, Cause::Long));
@@ -50,7 +51,7 @@ fn numbered_event(
 
 #[tactic(auto, unfolding(crate::specs::Reading::events_from))]
 fn events_of(alloc: Global, geometry: &Geometry, text: &[u8]) -> Result<Events, ParseError>
-    ensures { GivesText result (events_from geometry.now 1 2 (lines_left text.now)) }
+    ensures { Gives Ok text_fault result (events_from geometry.now 1 2 (lines_left text.now)) }
 {
     let mut events = Events::new(alloc);
     let mut latest = 1u64;
@@ -72,7 +73,7 @@ fn events_of(alloc: Global, geometry: &Geometry, text: &[u8]) -> Result<Events, 
 
 #[tactic(auto, unfolding(crate::specs::Reading::schedule_of))]
 fn schedule_of(alloc: Global, text: &[u8]) -> Result<Schedule, ParseError>
-    ensures { GivesText result (schedule_of text.now) }
+    ensures { Gives Ok text_fault result (schedule_of text.now) }
 {
     if text.len() > MOST_BYTES {
         return Err(refused(0, Cause::Long));
@@ -95,15 +96,15 @@ pub fn parse(alloc: Global, text: &[u8]) -> Result<Schedule, ParseError>
     // No text has two meanings.
     ensures one { IfOk result (λ schedule. (other : Schedule) → IsSchedule text.now other → other ≡ schedule) }
     // What a text means is given, unless memory runs out.
-    ensures only { (schedule : Schedule) → IsSchedule text.now schedule → GivesText result (Ok schedule) }
+    ensures only { (schedule : Schedule) → IsSchedule text.now schedule → Gives Ok text_fault result (Ok schedule) }
     // The line that is named is the first wrong one, with its cause, and the text means nothing.
-    ensures refused { IfErr result (Refuses text.now) }
+    ensures refused { IfErr result (RefusesText text.now) }
     // A text with a first wrong line is refused with that line and cause, unless memory runs out.
-    ensures first { (wrong : ScheduleError) → IsFirstWrong text.now wrong → GivesText {X = Schedule} result (Err wrong) }
+    ensures first { (wrong : ScheduleError) → IsFirstWrong text.now wrong → Gives Ok text_fault result (Err wrong) }
     // What is given keeps to the limits.
     ensures limits { IfOk result IsWithinLimits }
     // The same by the reading from the left.
-    ensures exact { GivesText result (schedule_of text.now) }
+    ensures exact { Gives Ok text_fault result (schedule_of text.now) }
 {
     schedule_of(alloc, text)
 }

@@ -2,9 +2,9 @@
 use Rattle.std.proofs.Common.{◌≡◌, ℕ, true, List, ◌∷◌, ◌++◌, drop, refl, sym, ap, subst, ◌∙◌, inl, inr}
 use Rattle.std.specs.Prelude.{Option, None, Some, codes}
 use Rattle.std.proofs.lemmas.Option.{same_Some, none-some}
-use Rattle.salus_model.specs.declared.schedule.Volume.{Volume}
-use Rattle.salus_model.specs.declared.schedule.Event.{Event}
-use Rattle.salus_model.specs.declared.schedule.Event.TheVariants as event
+use Rattle.small_model.specs.declared.schedule.Volume.{Volume}
+use Rattle.small_model.specs.declared.schedule.Event.{Event}
+use Rattle.small_model.specs.declared.schedule.Event.TheVariants as event
 use Rattle.small_schedule.specs.Reading.{write_event, read_event, deliver_event, lie_event, lie_of, handing_of, write_of, event_of}
 use Rattle.text_words.specs.Reading.{front, past, begins, number_of, block_of, lie_bytes_of}
 use Rattle.small_schedule.specs.Grammar.{IsEventLine}

@@ -3,7 +3,7 @@ use Rattle.std.proofs.Common.{◌≡◌, ℕ, ◌*◌, ◌^◌, ◌<◌, ◌≤�
 use Rattle.std.specs.Prelude.{Option, None, Some, codes, ◌&&◌}
 use Rattle.std.proofs.lemmas.Bool.{and_parts, and_from, leb-true, le-leb}
 use Rattle.std.proofs.lemmas.Option.{same_Some, none-some}
-use Rattle.salus_model.specs.declared.schedule.Volume.{Volume}
+use Rattle.small_model.specs.declared.schedule.Volume.{Volume}
 use Rattle.small_schedule.specs.Reading.{is_within, keyed_volume, sized_volume, volume_after, volume_of}
 use Rattle.text_words.specs.Reading.{front, past, begins, number_of, key_of}
 use Rattle.small_schedule.specs.Grammar.{IsVolume, IsVolumeLine}

@@ -4,8 +4,8 @@ use Rattle.std.specs.Prelude.{Option, None, Some, Result, Ok, Err}
 use Rattle.std.specs.List.{AllZip}
 use Rattle.std.proofs.lemmas.Bool.{ltb-true, ltb-false, le-ltb}
 use Rattle.std.proofs.lemmas.Option.{none-some}
-use Rattle.salus_model.specs.declared.schedule.Volume.{Volume}
-use Rattle.salus_model.specs.declared.schedule.Event.{Event}
+use Rattle.small_model.specs.declared.schedule.Volume.{Volume}
+use Rattle.small_model.specs.declared.schedule.Event.{Event}
 use Rattle.small_schedule.specs.Reading.{event_of, after_event, after_events, events_from}
 use Rattle.small_schedule.specs.Grammar.{IsEventLine}
 use Rattle.text_words.proofs.Settled.{chosen, pick_false, none_from}

@@ -1,7 +1,7 @@
 -- Texts with what they mean, computed.
 use Rattle.std.proofs.Common.{◌≡◌, [], ◌∷◌, ◌++◌, refl}
 use Rattle.std.specs.Prelude.{Ok, Err, codes}
-use Rattle.salus_model.specs.declared.schedule.Event.TheVariants as event
+use Rattle.small_model.specs.declared.schedule.Event.TheVariants as event
 use Rattle.text_words.specs.Grammar.{ended}
 use Rattle.text_words.specs.Reading.{front, past, lines_left, with_digits, number_of, pair_of, pairs_of, hex_of, block_of, lie_bytes_of}
 use Rattle.small_schedule.specs.Reading.{lie_of, handing_of, event_of, volume_after, volume_of, events_from, schedule_of}

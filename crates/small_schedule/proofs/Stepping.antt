@@ -2,7 +2,7 @@
 use Rattle.std.proofs.Common.{◌≡◌, ℕ, ◌+◌, ◌<◌, ◌≤◌, cond, ltb, List, [], ◌∷◌, ◌++◌, length, refl, sym, ap, ◌∙◌, arith, append_assoc, append-nil}
 use Rattle.std.specs.Prelude.{None, Some, Result, Ok, Err}
 use Rattle.std.proofs.lemmas.Bool.{lt-ltb, le-ltb}
-use Rattle.salus_model.specs.declared.schedule.Event.{Event}
+use Rattle.small_model.specs.declared.schedule.Event.{Event}
 use Rattle.text_words.specs.Reading.{front, past, lines_left}
 use Rattle.text_words.proofs.Stepping.{lines_left_step}
 use Rattle.small_schedule.specs.Reading.{after_events, after_event, events_from, event_of}

@@ -3,9 +3,9 @@ use Rattle.std.proofs.Common.{◌≡◌, ℕ, ltb, List, ◌∷◌, ◌++◌, le
 use Rattle.std.specs.Prelude.{Option, None, Some, Result, Ok, Err}
 use Rattle.std.proofs.lemmas.Bool.{ltb-true, ltb-false, lt-ltb, le-ltb}
 use Rattle.std.proofs.lemmas.Option.{none-some}
-use Rattle.salus_model.specs.declared.schedule.Volume.{Volume}
-use Rattle.salus_model.specs.declared.schedule.Event.{Event}
-use Rattle.salus_model.specs.declared.schedule.Schedule.{Schedule}
+use Rattle.small_model.specs.declared.schedule.Volume.{Volume}
+use Rattle.small_model.specs.declared.schedule.Event.{Event}
+use Rattle.small_model.specs.declared.schedule.Schedule.{Schedule}
 use Rattle.small_schedule.specs.Reading.{volume_of, events_from, with_events, after_volume, schedule_of}
 use Rattle.text_words.specs.Reading.{front, past, lines_left}
 use Rattle.small_schedule.specs.Grammar.{IsSchedule, IsWrongVolume, IsWrongLater, IsFirstWrongLine, IsFirstWrong}

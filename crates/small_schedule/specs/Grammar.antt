@@ -1,10 +1,10 @@
 -- Which text means which schedule, rule by rule, and where a text first departs from the rules.
 use Rattle.std.specs.Prelude.{◌≡◌, ℕ, ◌+◌, ◌*◌, ◌^◌, ◌<◌, ◌≤◌, ◌⊎◌, List, [], ◌∷◌, ◌++◌, length, codes}
 use Rattle.std.specs.List.{AllZip}
-use Rattle.salus_model.specs.declared.schedule.Volume.{Volume}
-use Rattle.salus_model.specs.declared.schedule.Event.{Event}
-use Rattle.salus_model.specs.declared.schedule.Event.TheVariants as event
-use Rattle.salus_model.specs.declared.schedule.Schedule.{Schedule}
+use Rattle.small_model.specs.declared.schedule.Volume.{Volume}
+use Rattle.small_model.specs.declared.schedule.Event.{Event}
+use Rattle.small_model.specs.declared.schedule.Event.TheVariants as event
+use Rattle.small_model.specs.declared.schedule.Schedule.{Schedule}
 use Rattle.text_words.specs.Grammar.{IsLines, IsWords, IsNumber, IsHex, IsBlock, IsLieBytes}
 
 -- ---- lines of each kind

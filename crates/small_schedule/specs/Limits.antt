@@ -1,9 +1,9 @@
 -- What every schedule of a text keeps to.
 use Rattle.std.specs.Prelude.{◌≡◌, ℕ, ◌≤◌, length}
 use Rattle.std.specs.List.{AllByRecursion}
-use Rattle.salus_model.specs.declared.schedule.Event.{Event}
-use Rattle.salus_model.specs.declared.schedule.Event.TheVariants as event
-use Rattle.salus_model.specs.declared.schedule.Schedule.{Schedule}
+use Rattle.small_model.specs.declared.schedule.Event.{Event}
+use Rattle.small_model.specs.declared.schedule.Event.TheVariants as event
+use Rattle.small_model.specs.declared.schedule.Schedule.{Schedule}
 use Rattle.small_schedule.specs.Grammar.{IsVolume}
 
 -- what is written is a whole block

@@ -1,9 +1,9 @@
 -- How a schedule's text is read, from the left: one function for each rule.
 use Rattle.std.specs.Prelude.{ℕ, ◌+◌, ◌*◌, ◌^◌, Bool, ◌&&◌, nat_lt, nat_le, if◌then◌else◌, List, [], ◌∷◌, ◌++◌, length, drop, codes, Option, None, Some, Result, Ok, Err}
-use Rattle.salus_model.specs.declared.schedule.Volume.{Volume}
-use Rattle.salus_model.specs.declared.schedule.Event.{Event}
-use Rattle.salus_model.specs.declared.schedule.Event.TheVariants as event
-use Rattle.salus_model.specs.declared.schedule.Schedule.{Schedule}
+use Rattle.small_model.specs.declared.schedule.Volume.{Volume}
+use Rattle.small_model.specs.declared.schedule.Event.{Event}
+use Rattle.small_model.specs.declared.schedule.Event.TheVariants as event
+use Rattle.small_model.specs.declared.schedule.Schedule.{Schedule}
 use Rattle.text_words.specs.Reading.{front, past, lines_left, begins, number_of, block_of, lie_bytes_of, key_of}
 
 -- ---- an event

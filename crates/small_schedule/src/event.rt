@@ -2,8 +2,8 @@ ghost use Rattle.std.specs.Prelude.{◌≡◌, IfOk};
 ghost use Rattle.small_schedule.specs.Reading.{read_event, deliver_event, lie_event, lie_of, handing_of, write_of, event_of};
 ghost use Rattle.text_words.specs.Reading.{number_of, lie_bytes_of};
 
-use salus_model::Event;
 use salus_types::NoMemory;
+use small_model::Event;
 use std::alloc::Global;
 use text_words::{block_of, lie_bytes_of, number_of, split_first};
 

@@ -1,15 +1,16 @@
-ghost use Rattle.std.specs.Prelude.{◌≡◌, ℕ, IfErr, IfOk};
-ghost use Rattle.salus_model.specs.declared.schedule.Schedule.{Schedule};
+ghost use Rattle.std.specs.Prelude.{◌≡◌, ℕ, Ok, Err, IfErr, IfOk};
+ghost use Rattle.small_model.specs.declared.schedule.Schedule.{Schedule};
 ghost use Rattle.small_schedule.specs.Grammar.{IsFirstWrong, IsSchedule};
 ghost use Rattle.small_schedule.specs.Limits.{IsWithinLimits};
-ghost use Rattle.small_schedule.specs.Outcome.{Gives, Refuses};
+ghost use Rattle.salus_types.specs.Outcome.{Gives};
+ghost use Rattle.small_schedule.specs.Outcome.{small_fault, Refuses};
 ghost use Rattle.small_schedule.specs.Reading.{events_from, schedule_of};
 ghost use Rattle.text_words.specs.Reading.{lines_left};
 
 use crate::error::ParseError;
 use crate::event::event_of;
 use crate::volume::volume_of;
-use salus_model::{Events, Schedule};
+use small_model::{Events, Schedule};
 use std::alloc::Global;
 use text_words::split_first;
 
@@ -21,7 +22,7 @@ const LAST_LINE: u64 = 65_537;
 
 #[tactic(auto, unfolding(crate::specs::Reading::events_from))]
 fn events_of(alloc: Global, size: u32, text: &[u8]) -> Result<Events, ParseError>
-    ensures { Gives result (events_from size 2 (lines_left text.now)) }
+    ensures { Gives Ok small_fault result (events_from size 2 (lines_left text.now)) }
 {
     let mut events = Events::new(alloc);
     let mut line = 2u64;
@@ -43,7 +44,7 @@ fn events_of(alloc: Global, size: u32, text: &[u8]) -> Result<Events, ParseError
 
 #[tactic(auto, unfolding(crate::specs::Reading::schedule_of))]
 fn schedule_of(alloc: Global, text: &[u8]) -> Result<Schedule, ParseError>
-    ensures { Gives result (schedule_of text.now) }
+    ensures { Gives Ok small_fault result (schedule_of text.now) }
 {
     if text.len() > MOST_BYTES {
         return Err(ParseError::Refused { line: 0 });
@@ -66,14 +67,14 @@ pub fn parse(alloc: Global, text: &[u8]) -> Result<Schedule, ParseError>
     // No text has two meanings.
     ensures one { IfOk result (λ schedule. (other : Schedule) → IsSchedule text.now other → other ≡ schedule) }
     // What a text means is given, unless memory runs out.
-    ensures only { (schedule : Schedule) → IsSchedule text.now schedule → Gives result (Ok schedule) }
+    ensures only { (schedule : Schedule) → IsSchedule text.now schedule → Gives Ok small_fault result (Ok schedule) }
     // The line that is named is the first wrong one, and the text means nothing.
     ensures refused { IfErr result (Refuses text.now) }
     // A text with a first wrong line is refused with that line, unless memory runs out.
-    ensures first { (line : ℕ) → IsFirstWrong text.now line → Gives {X = Schedule} result (Err line) }
+    ensures first { (line : ℕ) → IsFirstWrong text.now line → Gives Ok small_fault result (Err line) }
     ensures limits { IfOk result IsWithinLimits }
     // The same by the reading from the left.
-    ensures exact { Gives result (schedule_of text.now) }
+    ensures exact { Gives Ok small_fault result (schedule_of text.now) }
 {
     schedule_of(alloc, text)
 }

@@ -2,8 +2,8 @@ ghost use Rattle.std.specs.Prelude.{◌≡◌, IfOk};
 ghost use Rattle.small_schedule.specs.Reading.{is_within, sized_volume, keyed_volume, volume_after, volume_of};
 ghost use Rattle.text_words.specs.Reading.{key_of};
 
-use salus_model::Volume;
 use salus_types::NoMemory;
+use small_model::Volume;
 use std::alloc::Global;
 use text_words::{key_of, number_of, split_first};
 

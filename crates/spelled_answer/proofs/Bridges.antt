@@ -6,7 +6,7 @@ use Rattle.byteorder.specs.Endian.{big_number}
 use Rattle.salus_codec.specs.declared.errors.FieldError.{FieldError}
 use Rattle.salus_codec.specs.declared.errors.FieldError.TheVariants as error
 use Rattle.salus_codec.specs.Reading.{bytes_at as bytes_read, u8_at, u16_at, u32_at, u64_at, ◌>>=◌ as ◌>=>◌}
-use Rattle.salus_model.specs.Answering.{byte_at, bytes_at, number_at}
+use Rattle.small_model.specs.Answering.{byte_at, bytes_at, number_at}
 
 -- a field that is there, or none
 abbrev pub part : {A : Type 0} → Result A FieldError → Option A

@@ -1,10 +1,11 @@
 -- Reading digests one after the other, as a loop does.
 use Rattle.std.proofs.Common.{◌≡◌, ℕ, suc, ◌-◌, ◌+◌, ◌≤◌, ◌<◌, List, [], ◌∷◌, ◌++◌, None, Some, refl, sym, ap, ◌∙◌, append_assoc, arith}
+use Rattle.std.specs.Prelude.{IfSome}
 use Rattle.std.proofs.lemmas.List.{append-nil}
-use Rattle.salus_model.specs.Answering.{Field, ◌>>=◌, bytes_at, digests_at}
+use Rattle.small_model.specs.Answering.{Field, ◌>>=◌, bytes_at, digests_at}
 use Rattle.spelled_answer.specs.declared.unread.Unread.{Unread}
 use Rattle.spelled_answer.specs.declared.unread.Unread.TheVariants as unread
-use Rattle.spelled_answer.specs.Unreading.{IsMissing}
+use Rattle.spelled_answer.specs.Unreading.{missing}
 
 -- what was read before, and what is still read
 abbrev pub with_front : List (List ℕ) → Field (List (List ℕ)) → Field (List (List ℕ))
@@ -22,8 +23,8 @@ goes_on front count i bytes d after total lt h so_far =
     let one : with_front front (digests_at (count - i) bytes) ≡ with_front (front ++ d ∷ []) (digests_at (count - (i + 1)) after) = rw (k, h) (regroup front d (digests_at (count - (i + 1)) after)) in
     sym one ∙ so_far
 
-pub ends : (e : Unread) (front : List (List ℕ)) (count i : ℕ) (bytes : List ℕ) (total : Field (List (List ℕ))) → i < count → IsMissing e (bytes_at 32 bytes)
-    → with_front front (digests_at (count - i) bytes) ≡ total → IsMissing e total
+pub ends : (e : Unread) (front : List (List ℕ)) (count i : ℕ) (bytes : List ℕ) (total : Field (List (List ℕ))) → i < count → IfSome (missing e) (λ none. bytes_at 32 bytes ≡ none)
+    → with_front front (digests_at (count - i) bytes) ≡ total → IfSome (missing e) (λ none. total ≡ none)
 unfolding digests_at
 ends unread.NoMemory front count i bytes total lt h so_far = tt
 ends unread.NoAnswer front count i bytes total lt h so_far =

@@ -1,4 +1,2 @@
 pub mod Bridges
 pub mod Fronts
-pub mod Laws
-pub mod Spelled

@@ -1,13 +1,14 @@
 ghost use Rattle.std.specs.Prelude.{◌≡◌, Some, IfOk, IfSome};
-ghost use Rattle.salus_model.specs.declared.message.Answer.{Answer as AnswerSpelled};
-ghost use Rattle.salus_model.specs.Answering.{HasSpelling, answer_bytes, answer_of, after_mark, numbers_at, block_at, digests_at, path_at};
-ghost use Rattle.spelled_answer.specs.Unreading.{Gives};
+ghost use Rattle.small_model.specs.declared.message.Answer.{Answer as AnswerSpelled};
+ghost use Rattle.small_model.specs.Answering.{HasSpelling, answer_bytes, answer_of, after_mark, numbers_at, block_field, digests_at, path_at};
+ghost use Rattle.salus_types.specs.Outcome.{Gives};
+ghost use Rattle.spelled_answer.specs.Unreading.{missing};
 
 use crate::numbers::{next_byte, next_bytes, next_digest, next_u16, next_u32, next_u64};
 use crate::unread::Unread;
 use salus_codec::Fields;
-use salus_model::Answer;
 use salus_types::{Bytes, Items, NoMemory, Path};
+use small_model::Answer;
 use std::alloc::Global;
 
 const ANSWER: u8 = 5;
@@ -19,9 +20,9 @@ const BLOCK_BYTES: u16 = 4096;
 const LEVELS: u8 = 12;
 
 /// Passes the kind and the session.
-#[tactic(auto, unfolding(salus_model::specs::Answering::after_mark))]
+#[tactic(auto, unfolding(small_model::specs::Answering::after_mark))]
 fn pass_mark(fields: &mut Fields<'_>) -> Result<(), Unread>
-    ensures { Gives (λ _. fields.new) result (after_mark fields.old) }
+    ensures { Gives (λ _. Some fields.new) missing result (after_mark fields.old) }
 {
     let kind = next_byte(fields)?;
     let session = next_u64(fields)?;
@@ -33,9 +34,9 @@ fn pass_mark(fields: &mut Fields<'_>) -> Result<(), Unread>
 }
 
 /// The read's number, the block's, and the number that the answer is of.
-#[tactic(auto, unfolding(salus_model::specs::Answering::numbers_at))]
+#[tactic(auto, unfolding(small_model::specs::Answering::numbers_at))]
 fn next_numbers(fields: &mut Fields<'_>) -> Result<(u64, u32, u64), Unread>
-    ensures { Gives (λ x. ((x.0, x.1, x.2), fields.new)) result (numbers_at fields.old) }
+    ensures { Gives (λ x. Some ((x.0, x.1, x.2), fields.new)) missing result (numbers_at fields.old) }
 {
     let read = next_u64(fields)?;
     let block = next_u32(fields)?;
@@ -43,9 +44,9 @@ fn next_numbers(fields: &mut Fields<'_>) -> Result<(u64, u32, u64), Unread>
     Ok((read, block, at))
 }
 
-#[tactic(auto, unfolding(salus_model::specs::Answering::block_at))]
+#[tactic(auto, unfolding(small_model::specs::Answering::block_field))]
 fn next_block(alloc: Global, fields: &mut Fields<'_>) -> Result<Bytes, Unread>
-    ensures { Gives (λ x. (x, fields.new)) result (block_at fields.old) }
+    ensures { Gives (λ x. Some (x, fields.new)) missing result (block_field fields.old) }
 {
     let size = next_u16(fields)?;
     if 1 <= size && size <= BLOCK_BYTES {
@@ -57,7 +58,7 @@ fn next_block(alloc: Global, fields: &mut Fields<'_>) -> Result<Bytes, Unread>
 }
 
 fn next_digests(alloc: Global, fields: &mut Fields<'_>, count: u8) -> Result<Path, Unread>
-    ensures { Gives (λ x. (x, fields.new)) result (digests_at count fields.old) }
+    ensures { Gives (λ x. Some (x, fields.new)) missing result (digests_at count fields.old) }
 {
     let mut digests = Vec::with_capacity(alloc, count as usize)?;
     'digests: for _ in 0..count {
@@ -67,9 +68,9 @@ fn next_digests(alloc: Global, fields: &mut Fields<'_>, count: u8) -> Result<Pat
     Ok(Items::from_vec(digests))
 }
 
-#[tactic(auto, unfolding(salus_model::specs::Answering::path_at))]
+#[tactic(auto, unfolding(small_model::specs::Answering::path_at))]
 fn next_path(alloc: Global, fields: &mut Fields<'_>) -> Result<Path, Unread>
-    ensures { Gives (λ x. (x, fields.new)) result (path_at fields.old) }
+    ensures { Gives (λ x. Some (x, fields.new)) missing result (path_at fields.old) }
 {
     let count = next_byte(fields)?;
     if count <= LEVELS {
@@ -79,9 +80,9 @@ fn next_path(alloc: Global, fields: &mut Fields<'_>) -> Result<Path, Unread>
     }
 }
 
-#[tactic(auto, unfolding(salus_model::specs::Answering::answer_of))]
+#[tactic(auto, unfolding(small_model::specs::Answering::answer_of))]
 fn whole_answer(alloc: Global, bytes: &[u8]) -> Result<Answer, Unread>
-    ensures { Gives (λ x. x) result (answer_of bytes.now) }
+    ensures { Gives Some missing result (answer_of bytes.now) }
 {
     let mut fields = Fields::new(bytes);
     pass_mark(&mut fields)?;

@@ -1,6 +1,6 @@
 use Rattle.std.proofs.Common.{◌≡◌, ◌++◌, ◌∷◌, []}
 use Rattle.std.proofs.lemmas.Result.{err_from_is_err_and}
-use Rattle.salus_model.specs.Answering.{digests_at}
+use Rattle.small_model.specs.Answering.{digests_at}
 use Rattle.spelled_answer.proofs.Fronts.{goes_on, ends, is_done}
 use Rattle.spelled_answer.proofs.answer.next_digests.Goals as goal
 

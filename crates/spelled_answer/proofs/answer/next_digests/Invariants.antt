@@ -1,5 +1,5 @@
 use Rattle.std.proofs.Common.{◌≡◌, ◌-◌}
-use Rattle.salus_model.specs.Answering.{digests_at}
+use Rattle.small_model.specs.Answering.{digests_at}
 use Rattle.spelled_answer.proofs.Fronts.{with_front}
 use Rattle.spelled_answer.proofs.answer.next_digests.Given as goal
 

@@ -1,6 +1,6 @@
 use Rattle.std.proofs.Common.{◌≡◌, None, ap, sym, ◌∙◌, arith}
-use Rattle.salus_model.specs.Answering.{answer_of}
-use Rattle.spelled_answer.proofs.Laws.{answer_takes, answer_again}
+use Rattle.small_model.specs.Answering.{answer_of}
+use Rattle.small_model.proofs.AnswerLaws.{answer_takes, answer_again}
 use Rattle.spelled_answer.proofs.answer.read_answer.Goals as goal
 
 pub returns-in-Ok-clause-found : goal.returns-in-Ok-clause-found

@@ -1,0 +1,17 @@
+pub mod Origins
+pub mod Staying
+pub mod Voted
+pub mod Folding
+pub mod Whole
+pub mod Sane
+pub mod Soundly
+pub mod Standing
+pub mod Blocks
+pub mod Shaping
+pub mod Carrying
+pub mod Ranged
+pub mod Behind
+pub mod Licensed
+pub mod Leaders
+pub mod Claimed
+pub mod Granted

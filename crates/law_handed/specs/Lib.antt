@@ -1,0 +1,4 @@
+pub mod Bringing
+pub mod Lasting
+pub mod Fitting
+pub mod Licensing

@@ -1,0 +1,4 @@
+pub mod Rereading
+pub mod Formatting
+pub mod Bringing
+pub mod Along

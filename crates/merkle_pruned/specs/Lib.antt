@@ -1,0 +1,4 @@
+pub mod Subtree
+pub mod Path
+pub mod Tree
+pub mod Node

@@ -1,0 +1,14 @@
+pub mod Members
+pub mod SameRoots
+pub mod Taken
+pub mod Chains
+pub mod Ascending
+pub mod Ends
+pub mod Lengthening
+pub mod Walking
+pub mod Highest
+pub mod Rounds
+pub mod Picking
+pub mod Single
+pub mod Gathered
+pub mod Keeping

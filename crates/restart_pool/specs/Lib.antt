@@ -1,0 +1,4 @@
+pub mod Latest
+pub mod Following
+pub mod Kept
+pub mod Assembled
