@@ -1,5 +1,5 @@
 -- What is held, as a log grows and as it is read.
-use Rattle.std.proofs.Common.{◌≡◌, ◌≢◌, inl, inr, ⊎_elim, ℕ, zero, suc, ◌+◌, ◌<◌, ◌≤◌, Bool, true, false, Option, Some, None, List, [], ◌∷◌, ◌++◌, length, take, drop, filter, nat_le, refl, sym, ◌∙◌, ap, subst, arith, add-one}
+use Rattle.std.proofs.Common.{◌≡◌, inl, inr, ⊎_elim, ℕ, zero, suc, ◌+◌, ◌<◌, ◌≤◌, Bool, false, Option, Some, None, List, [], ◌∷◌, ◌++◌, length, take, filter, nat_le, refl, sym, ◌∙◌, ap, subst, arith, add-one}
 use Rattle.std.specs.Prelude.{option_and_then, IsSomeAnd}
 use Rattle.std.specs.List.{AllByRecursion, slice_get}
 use Rattle.std.proofs.lemmas.List.{take_all}
@@ -10,13 +10,15 @@ use Rattle.salus_types.specs.declared.records.Held.{Held}
 use Rattle.disk_model.specs.Disk.{Moment, History, Now, EachImage, IsImage, Through, Goes, IsSynced, clean}
 use Rattle.disk_model.proofs.Passing.{through_none, through_same, through_weaker, now_map, each_clean}
 use Rattle.datanode_log.specs.Entries.{entries_of}
-use Rattle.datanode_log.specs.Logs.{IsLog, IsBeforeOrAfter, entries_now}
+use Rattle.datanode_log.specs.Logs.{IsLog, IsBeforeOrAfter, entries_now, Refuses}
 use Rattle.datanode_log.specs.Known.{SoundAt}
 use Rattle.datanode_log.proofs.Spelling.{spelled_log}
 use Rattle.holding_model.specs.Holding.{Entry, ToSession, entry_of, held_from, held_of, held_after, nothing_held}
 use Rattle.datanode_store.specs.declared.error.StoreError.{StoreError}
 use Rattle.datanode_store.specs.declared.error.StoreError.TheVariants.{Foreign, Damaged, BadRecord, Device, NoMemory}
-use Rattle.datanode_store.specs.Causes.{IsFirstBad, RefusesEntries, RefusesFile}
+use Rattle.datanode_log.specs.declared.error.LogError.{LogError}
+use Rattle.datanode_log.specs.declared.error.LogError.TheVariants as error_of_log
+use Rattle.datanode_store.specs.Causes.{of_log, IsOutside, IsFirstBad, RefusesEntries, RefusesFile}
 use Rattle.datanode_store.specs.Meaning.{Means, MeansEither, IsPart, IsBegun, CanBeKept}
 
 -- ---- lists
@@ -162,3 +164,49 @@ refused_file NoMemory file log refuses = tt
 pub refused_means : (old : History) (bytes : List ℕ) (error : StoreError) → Now old (λ was. bytes ≡ was.seen) → IsLog bytes (entries_of bytes) → RefusesEntries error (entries_of bytes) → Now old (λ was. RefusesFile error was.seen)
 refused_means old bytes error same log refuses =
     now_map (λ was. bytes ≡ was.seen) (λ was. RefusesFile error was.seen) (λ was at. subst (λ (l : List ℕ). RefusesFile error l) at (refused_file error bytes log refuses)) old same
+
+-- ---- a file that a store wrote
+
+abbrev IsRead : Option (List ℕ) → Type 0
+IsRead None = Unit {0}
+IsRead (Some bytes) = entry_of bytes ≡ None → ⊥
+
+bad_option : (first : Held) (entries : List (List ℕ)) (bytes : List ℕ) (held : Held) (o : Option Entry) → option_and_then (λ x. held_from (held_after first x) entries) o ≡ Some held → o ≡ None → ⊥
+bad_option first entries bytes held None is bad = cc
+bad_option first entries bytes held (Some x) is bad = cc
+
+rest_option : (first : Held) (entries : List (List ℕ)) (held : Held) (i : ℕ) (o : Option Entry) → ((x : Entry) → held_from (held_after first x) entries ≡ Some held → IsRead (slice_get entries i)) → option_and_then (λ x. held_from (held_after first x) entries) o ≡ Some held → IsRead (slice_get entries i)
+rest_option first entries held i None next is = cc
+rest_option first entries held i (Some x) next is = next x is
+
+-- each entry is read, where all are
+read_each : (first : Held) (entries : List (List ℕ)) (held : Held) (i : ℕ) → held_from first entries ≡ Some held → IsRead (slice_get entries i)
+unfolding held_from
+read_each first [] held i is = tt
+read_each first (bytes ∷ entries) held zero is = λ bad. bad_option first entries bytes held (entry_of bytes) is bad
+read_each first (bytes ∷ entries) held (suc i) is = rest_option first entries held i (entry_of bytes) (λ x here. read_each (held_after first x) entries held i here) is
+
+not_bad : (o : Option (List ℕ)) → IsRead o → IsSomeAnd o (λ bytes. entry_of bytes ≡ None) → ⊥
+not_bad None read bad = bad
+not_bad (Some bytes) read bad = read bad
+
+-- where the file means something, it is refused only by the device, or for want of memory
+pub means_outside : (error : StoreError) (file : List ℕ) (held : Held) → Means held file → RefusesFile error file → IsOutside error
+means_outside Foreign file held means refuses = ⊎_elim (λ (short : length file < 9). absurd (omega (arith, short, means.log.long))) (λ other. absurd (other means.log.marked)) refuses
+means_outside (Damaged at) file held means refuses = let whole = means.log.whole in let bad = refuses.2 in cc
+means_outside (BadRecord at) file held means refuses = not_bad (slice_get (entries_of file) at) (read_each nothing_held (entries_of file) held at means.holds) refuses.1.here
+means_outside Device file held means refuses = tt
+means_outside NoMemory file held means refuses = tt
+
+log_refuses : (error : LogError) (file : List ℕ) → Refuses error file → RefusesFile (of_log error) file
+log_refuses error_of_log.Foreign file refuses = refuses
+log_refuses (error_of_log.Damaged at) file refuses = refuses
+log_refuses error_of_log.Device file refuses = tt
+log_refuses error_of_log.NoMemory file refuses = tt
+
+pub written_log : (old : History) (error : LogError) (given : StoreError) → given ≡ of_log error → Now old (λ was. Refuses error was.seen) → Now old (λ was. (held : Held) → Means held was.seen → IsOutside given)
+written_log old error given is refused =
+    now_map (λ was. Refuses error was.seen) (λ was. (held : Held) → Means held was.seen → IsOutside given) (λ was refuses held means. subst IsOutside (sym is) (means_outside (of_log error) was.seen held means (log_refuses error was.seen refuses))) old refused
+
+pub written_file : (old : History) (error : StoreError) → Now old (λ was. RefusesFile error was.seen) → Now old (λ was. (held : Held) → Means held was.seen → IsOutside error)
+written_file old error refused = now_map (λ was. RefusesFile error was.seen) (λ was. (held : Held) → Means held was.seen → IsOutside error) (λ was refuses held means. means_outside error was.seen held means refuses) old refused

@@ -1,5 +1,5 @@
 -- What the live lane of a file holds, as its log is written anew.
-use Rattle.std.proofs.Common.{◌≡◌, ◌⊎◌, inl, inr, ⊎_elim, ℕ, Bool, false, Some, List, [], ◌∷◌, refl, sym, ap, subst}
+use Rattle.std.proofs.Common.{◌≡◌, inl, inr, ⊎_elim, ℕ, Bool, false, Some, List, [], ◌∷◌, refl, sym, ap, subst}
 use Rattle.salus_types.specs.declared.records.Held.{Held}
 use Rattle.disk_model.specs.Disk.{Moment, History, Now, EachImage, IsImage, Through}
 use Rattle.disk_model.proofs.Passing.{through_none, through_same, through_weaker, now_map}

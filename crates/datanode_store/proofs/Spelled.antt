@@ -1,5 +1,5 @@
 -- Each entry carries what it was made of, and none is long.
-use Rattle.std.proofs.Common.{◌≡◌, ◌≢◌, ℕ, zero, suc, ◌+◌, ◌*◌, ◌^◌, ◌<◌, ◌≤◌, ◌==◌, if◌then◌else◌, true, false, List, [], ◌∷◌, ◌++◌, length, Option, Some, None, Ok, refl, sym, ◌∙◌, ap, subst, arith, length-append}
+use Rattle.std.proofs.Common.{◌≡◌, ◌≢◌, ℕ, ◌+◌, ◌*◌, ◌^◌, ◌<◌, ◌≤◌, ◌==◌, List, [], ◌∷◌, ◌++◌, length, Some, None, refl, sym, ◌∙◌, ap, arith, length-append}
 use Rattle.std.specs.Prelude.{option_map, option_and_then}
 use Rattle.std.specs.List.{AllByRecursion, flat_map}
 use Rattle.std.proofs.lemmas.List.{append-nil}
@@ -17,7 +17,7 @@ use Rattle.client_tag.specs.Spelling.{batch_bytes, before_bytes, numbers_bytes, 
 use Rattle.client_tag.specs.Ranges.{IsHeader, IsWrite, IsRecord, AreBlocks, IsBase, IsBetween, HasWidths, IsTyped}
 use Rattle.client_tag.specs.Reading.{record_at, base_at}
 use Rattle.client_tag.proofs.RecordLaws.{record_again, is_base}
-use Rattle.holding_model.specs.Holding.{Entry, OfPart, OfBase, ToSession, entry_of, whole_field, with_blocks}
+use Rattle.holding_model.specs.Holding.{OfPart, OfBase, ToSession, entry_of, whole_field, with_blocks}
 
 -- ---- read again
 

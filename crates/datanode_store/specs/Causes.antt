@@ -1,5 +1,5 @@
 -- Which error a call of a store answers.
-use Rattle.std.specs.Prelude.{◌≡◌, ℕ, ◌<◌, Bool, true, false, List, length, take, IsSomeAnd, Some, None, Result, Ok, Err}
+use Rattle.std.specs.Prelude.{◌≡◌, ℕ, Bool, true, false, List, take, IsSomeAnd, None, Result, Ok, Err}
 use Rattle.std.specs.List.{slice_get}
 use Rattle.datanode_log.specs.declared.error.LogError.{LogError}
 use Rattle.datanode_log.specs.declared.error.LogError.TheVariants as log

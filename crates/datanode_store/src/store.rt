@@ -1,6 +1,7 @@
 ghost use Rattle.std.specs.Prelude.{◌≡◌, ◌≤◌, ◌<◌, ◌^◌, ◌++◌, ◌∷◌, [], List, Some, true, false, length, IfOk, IfErr, OnOk, OnErr, MatchResult};
 ghost use Rattle.std.proofs.Props.{props};
 ghost use Rattle.disk_model.specs.Disk.{Moment, Now, EachImage, Goes, IsSynced, Through, clean};
+ghost use Rattle.salus_types.specs.declared.records.Held.{Held as AnyHeld};
 ghost use Rattle.client_tag.specs.Ranges.{IsRecord, IsBase};
 ghost use Rattle.disk_lane.specs.Heads.{IsHead};
 ghost use Rattle.datanode_log.specs.Causes.{IsCaused, KeepsSure};
@@ -67,6 +68,8 @@ impl<D: Disk> Store<D> {
         ensures held { IfOk result (λ store. Now (D.history disk) (λ old. Means store.held old.seen)) }
         ensures working { IfOk result (λ store. store.log.failed ≡ false) }
         ensures refused { IfErr result (λ refused. Now (D.history disk) (λ old. RefusesFile refused.error old.seen)) }
+        // A file that a store wrote is refused only by the device, or for want of memory.
+        ensures written { IfErr result (λ refused. Now (D.history disk) (λ old. (held : AnyHeld) → Means held old.seen → IsOutside refused.error)) }
         ensures moments { MatchResult result (λ store. Goes IsSynced (D.history disk) (D.history store.log.disk)) (λ refused. Goes IsSynced (D.history disk) (D.history refused.disk)) }
         ensures stays { MatchResult result (λ store. D.stays disk store.log.disk) (λ refused. D.stays disk refused.disk) }
         ensures cause { MatchResult result (λ store. D.faults store.log.disk ≡ D.faults disk) (λ refused. IsCaused (D.faults disk) (D.faults refused.disk) (is_device refused.error)) }
@@ -199,6 +202,7 @@ impl<D: Disk> Store<D> {
     pub fn held(&self) -> &Held
         ensures held { result.now ≡ self.now.held }
         ensures ranges { CanBeKept result.now }
+        ensures means { self.now.log.failed ≡ false → Now (D.history self.now.log.disk) (λ now. EachImage now (Means self.now.held)) }
     {
         &self.held
     }

@@ -48,7 +48,7 @@ unfolding AllScripted
 scripted-head events w rest a batch is = subst (λ r. IsScripted events w.event r) is a.0
 
 -- so is the write at the head
-head_written : (events : List Event) (history : List Past) (judge : Judge) → AllScripted events (all_taken (since opens history))
+pub head_written : (events : List Event) (history : List Past) (judge : Judge) → AllScripted events (all_taken (since opens history))
     → (w : Taken) (behind : List Taken) → line_of (live history judge) ≡ w ∷ behind → IsWritten events w
 unfolding live
 head_written events history judge a w behind is =
@@ -68,7 +68,7 @@ joined_scripted events n m v (Says name msg) f = tt
 joined_scripted events n m v Crashes f = tt
 joined_scripted events n m v Silence f = tt
 
-next_scripted : (events : List Event) (history : List Past) (p : Past) (n m : ℕ) → AsksFit events n m p.step.event p.news → AllScripted events (all_taken (since opens history))
+pub next_scripted : (events : List Event) (history : List Past) (p : Past) (n m : ℕ) → AsksFit events n m p.step.event p.news → AllScripted events (all_taken (since opens history))
     → AllScripted events (all_taken (since opens (p ∷ history)))
 unfolding since all_taken AllScripted
 next_scripted events history p n m f a =
@@ -76,7 +76,7 @@ next_scripted events history p n m f a =
     (λ _. scripted-append events (all_taken (since opens history)) (taken_in p) a
     (by_test (λ t. AllScripted events (if t then [] else joining p.step.event p.news)) (refuses p) (λ _. tt) (λ _. joined_scripted events n m p.step.event p.news f)))
 
-small_after : (events : List Event) (n m v : ℕ) (x : News) → n ≤ 2 ^ 32 → AsksFit events n m v x → event_after n v x ≤ 2 ^ 32
+pub small_after : (events : List Event) (n m v : ℕ) (x : News) → n ≤ 2 ^ 32 → AsksFit events n m v x → event_after n v x ≤ 2 ^ 32
 small_after events n m v (Asks r) small f = let b = f.1 in omega (arith, b)
 small_after events n m v (Says name msg) small f = small
 small_after events n m v Crashes small f = small

@@ -1,4 +1,4 @@
-use Rattle.std.proofs.Common.{◌≡◌, ◌++◌, ◌∷◌, ap, ◌∙◌, List, ℕ, length, arith}
+use Rattle.std.proofs.Common.{◌++◌, ap, ◌∙◌, List, ℕ, length, arith}
 use Rattle.client_tag.specs.Spelling.{record_bytes}
 use Rattle.holding_model.specs.Holding.{entry_of}
 use Rattle.datanode_store.proofs.Spelled.{entry_of-part, record_len}

@@ -1,4 +1,4 @@
-use Rattle.std.proofs.Common.{◌≡◌, ◌++◌, ◌∷◌, ap, ◌∙◌, List, ℕ, length, arith}
+use Rattle.std.proofs.Common.{◌++◌, ap, ◌∙◌, List, ℕ, length, arith}
 use Rattle.salus_codec.specs.Spelling.{be8}
 use Rattle.holding_model.specs.Holding.{entry_of}
 use Rattle.datanode_store.proofs.Spelled.{entry_of-switch, len8}

@@ -1,4 +1,4 @@
-use Rattle.std.proofs.Common.{ℕ, ◌<◌, length, arith, rules}
+use Rattle.std.proofs.Common.{◌<◌, length, arith, rules}
 use Rattle.salus_codec.specs.Spelling.{IsBytes}
 use Rattle.client_tag.proofs.RecordLaws.{is_base}
 use Rattle.datanode_store.proofs.reading.read_begun.Goals as goal

@@ -1,4 +1,4 @@
-use Rattle.std.proofs.Common.{◌≡◌, Err, Some, ap}
+use Rattle.std.proofs.Common.{Err, ap}
 use Rattle.datanode_log.specs.Entries.{entries_of}
 use Rattle.datanode_store.proofs.Kept.{read_next, first_bad, empty_known, empty_kept}
 use Rattle.datanode_store.proofs.reading.read_held.Goals as goal

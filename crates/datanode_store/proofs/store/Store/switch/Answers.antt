@@ -1,4 +1,4 @@
-use Rattle.std.proofs.Common.{◌≡◌, ◌∙◌, List, ℕ, ap, sym, subst}
+use Rattle.std.proofs.Common.{◌∙◌, List, ℕ, ap, sym, subst}
 use Rattle.salus_types.specs.declared.records.Held.{Held}
 use Rattle.holding_model.specs.Holding.{ToSession, entry_of, held_after}
 use Rattle.datanode_store.proofs.Kept.{HoldsAt, images_now, added_through, same_through, added_holds, resting_holds, kept_means}

@@ -1,0 +1,4 @@
+pub mod Living
+pub mod Lists
+pub mod Folded
+pub mod Written

@@ -1,0 +1,36 @@
+use Rattle.disk_model.specs.Disk.{Now, EachImage}
+use Rattle.disk_lane.specs.Lanes.{lane_history}
+use Rattle.datanode_store.specs.Meaning.{Means}
+use Rattle.datanode_store.specs.Live.{MeansLive}
+use Rattle.holding_model.specs.Holding.{ToSession, held_after}
+use Rattle.datanode_checkpoint.proofs.Living.{on_ok, head_now, head_from, head_stays, live_through, live_each}
+use Rattle.datanode_checkpoint.proofs.checkpoint.Checkpoint.switch.Goals as goal
+
+pub invariant_of-self : goal.invariant_of-self
+invariant_of-self g c =
+    let was = c.args.self.now.store in
+    let now = c.switch.new.self in
+    let old = g.D.Disk.history was.log.disk.disk in
+    let new = g.D.Disk.history now.log.disk.disk in
+    let head = head_now old was.log.failed was.log.disk.lane c.requires c.args.self.now.head in
+    record { head = head_from new now.log.failed now.log.disk.lane (λ works. head_stays was.log.disk.lane now.log.disk.lane old new c.switch.ensures.stays head) }
+
+pub returns-clause-durable : goal.returns-clause-durable
+returns-clause-durable g c =
+    let was = c.args.self.now.store in
+    let now = c.switch.new.self in
+    let old = g.D.Disk.history was.log.disk.disk in
+    let new = g.D.Disk.history now.log.disk.disk in
+    let lane = now.log.disk.lane in
+    let after = held_after was.held (ToSession c.args.session) in
+    let head = head_stays was.log.disk.lane lane old new c.switch.ensures.stays (head_now old was.log.failed was.log.disk.lane c.requires c.args.self.now.head) in
+    on_ok c.switch.result (Now (lane_history lane new) (λ now. EachImage now (Means after))) (Now new (λ now. EachImage now (MeansLive after))) (λ means. live_each lane new after head means) c.switch.ensures.durable
+
+pub returns-clause-any_moment : goal.returns-clause-any_moment
+returns-clause-any_moment g c =
+    let was = c.args.self.now.store in
+    let now = c.switch.new.self in
+    let old = g.D.Disk.history was.log.disk.disk in
+    let new = g.D.Disk.history now.log.disk.disk in
+    let head = head_now old was.log.failed was.log.disk.lane c.requires c.args.self.now.head in
+    live_through was.log.disk.lane now.log.disk.lane old new was.held (held_after was.held (ToSession c.args.session)) c.switch.ensures.stays c.switch.ensures.any_moment head

@@ -1,0 +1,15 @@
+use Rattle.std.proofs.Common.{◌≡◌, ◌∙◌, ◌∷◌, ◌++◌, [], List, ℕ, Some, ap}
+use Rattle.salus_types.specs.declared.records.Held.{Held}
+use Rattle.datanode_log.specs.Entries.{entries_of}
+use Rattle.holding_model.specs.Holding.{OfPart, entry_of, held_of, held_after}
+use Rattle.datanode_store.proofs.Kept.{held_push}
+use Rattle.datanode_checkpoint.proofs.Living.{on_ok}
+use Rattle.datanode_checkpoint.proofs.spelling.push_part.Goals as goal
+
+pub returns : goal.returns
+returns c =
+    let before = entries_of c.args.log.now.bytes.items in
+    let after = entries_of c.push.new.self.bytes.items in
+    let bytes = c.as_slice.result.now in
+    let is = ap (λ (l : List ℕ). entry_of l) c.as_slice.ensures.value ∙ c.in_ok-entry.ensures.entry in
+    on_ok c.push.result (after ≡ before ++ bytes ∷ []) ((held : Held) → held_of before ≡ Some held → held_of after ≡ Some (held_after held (OfPart c.args.rec.now))) (λ added. λ held known. ap held_of added ∙ held_push before bytes held (OfPart c.args.rec.now) known is) c.push.ensures.added

@@ -1,0 +1,6 @@
+mod Fitting
+mod Kept
+mod Sending
+mod Beginning
+mod Along
+pub mod Running

@@ -1,0 +1,6 @@
+use Rattle.std.proofs.Common.{◌≡◌, sym}
+use Rattle.std.proofs.lemmas.Result.{IfOk-weaker}
+use Rattle.volume_restart.proofs.restart.Restart.choose.Goals as goal
+
+pub returns-clause-exact : goal.returns-clause-exact
+returns-clause-exact c = rw (← c.self.view_is, ← c.self.invariant) c.choose.ensures.exact
