@@ -15,7 +15,11 @@ mod pruned;
 #[cfg(test)]
 mod replay;
 #[cfg(test)]
+mod restarts;
+#[cfg(test)]
 mod schedules;
+#[cfg(test)]
+mod storage;
 #[cfg(test)]
 mod tags;
 #[cfg(test)]
