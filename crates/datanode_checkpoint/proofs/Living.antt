@@ -1,18 +1,19 @@
 -- What the file of a checkpoint means, from what its live lane does.
-use Rattle.std.proofs.Common.{◌≡◌, inl, inr, ⊎_elim, ℕ, ◌<◌, Bool, false, List, length, [], ◌∷◌, ◌++◌, Result, Ok, Err, OnOk, refl, sym, ap, subst, arith}
+use Rattle.std.proofs.Common.{◌≡◌, ◌⊎◌, inl, inr, ⊎_elim, ℕ, ◌<◌, Bool, false, List, length, [], ◌∷◌, ◌++◌, Result, Ok, Err, OnOk, refl, sym, ap, subst, arith}
 use Rattle.salus_types.specs.declared.records.Held.{Held}
 use Rattle.disk_model.specs.Disk.{Moment, History, Now, EachImage, IsImage, Through, Goes, IsSynced, clean}
-use Rattle.disk_model.proofs.Passing.{through_weaker, now_map}
-use Rattle.disk_lane.specs.Lanes.{lane_bytes, lane_history}
+use Rattle.disk_model.proofs.Passing.{through_weaker, through_trans, through_now, sync_through, now_map}
+use Rattle.disk_lane.specs.Lanes.{lane_bytes, lane_moment, lane_history}
+use Rattle.disk_lane.specs.Images.{reads_of_lane}
 use Rattle.disk_lane.specs.Heads.{live_bytes, IsHead, IsUnmarked}
 use Rattle.disk_lane.specs.Beside.{StaysBeside}
-use Rattle.disk_lane.proofs.Lifting.{each_in_file}
+use Rattle.disk_lane.proofs.Lifting.{each_in_file, each_in_lane}
 use Rattle.disk_lane.proofs.Joint.{through_lane, head_beside}
 use Rattle.datanode_store.specs.declared.error.StoreError.{StoreError}
 use Rattle.datanode_store.specs.declared.error.StoreError.TheVariants.{Foreign, Damaged, BadRecord, Device, NoMemory}
 use Rattle.datanode_store.specs.Causes.{IsOutside, RefusesFile}
 use Rattle.datanode_store.specs.Meaning.{Means, MeansEither}
-use Rattle.datanode_store.specs.Live.{MeansLive, MeansLiveEither}
+use Rattle.datanode_store.specs.Live.{MeansLive, MeansLiveEither, MeansOneLive}
 use Rattle.datanode_store.proofs.Kept.{means_outside}
 use Rattle.datanode_store.proofs.Lanes.{live_in}
 use Rattle.datanode_checkpoint.specs.Files.{IsMarked, RefusesLane, RefusesLive}
@@ -104,3 +105,38 @@ live_outside NoMemory file held means refuses = tt
 
 pub written_live : (old : History) (error : StoreError) → Now old (λ was. RefusesLive error was.seen) → Now old (λ was. (held : Held) → MeansLive held was.seen → IsOutside error)
 written_live old error refused = now_map (λ was. RefusesLive error was.seen) (λ was. (held : Held) → MeansLive held was.seen → IsOutside error) (λ was refuses held means. live_outside error was.seen held means refuses) old refused
+
+-- ---- the moments of a load
+
+-- the lane means one of these
+abbrev MeansOne : List Held → List ℕ → Type 0
+MeansOne [] bytes = ⊥
+MeansOne (held ∷ contents) bytes = Means held bytes ⊎ MeansOne contents bytes
+
+one_in_lane : (lane : ℕ) (file : List ℕ) (contents : List Held) → IsHead lane file → MeansOneLive contents file → MeansOne contents (lane_bytes lane file)
+one_in_lane lane file [] head means = means
+one_in_lane lane file (held ∷ contents) head means =
+    ⊎_elim (λ (here : MeansLive held file). inl (subst (λ (l : ℕ). Means held (lane_bytes l file)) head.live here.live)) (λ (other : MeansOneLive contents file). inr (one_in_lane lane file contents head other)) means
+
+one_in_file : (lane : ℕ) (file : List ℕ) (contents : List Held) → IsHead lane file → MeansOne contents (lane_bytes lane file) → MeansOneLive contents file
+one_in_file lane file [] head means = means
+one_in_file lane file (held ∷ contents) head means =
+    ⊎_elim (λ (here : Means held (lane_bytes lane file)). inl (live_in lane file held head here)) (λ (other : MeansOne contents (lane_bytes lane file)). inr (one_in_file lane file contents head other)) means
+
+one_now : (lane : ℕ) (h : History) (contents : List Held) → Now h (λ m. EachImage m (IsHead lane)) → Now h (λ m. EachImage m (MeansOneLive contents)) → Now (lane_history lane h) (λ m. EachImage m (MeansOne contents))
+one_now lane [] contents head means = tt
+one_now lane (m ∷ past) contents head means = each_in_lane lane m (MeansOne contents) (λ file is. one_in_lane lane file contents (head file is) (means file is))
+
+-- the lane is synced and read
+lane_through : (lane other : ℕ) (old new : History) (contents : List Held) → StaysBeside lane other old new → Goes IsSynced (lane_history lane old) (lane_history other new) → Now old (λ m. IsImage m m.seen) → Now old (λ m. EachImage m (IsHead lane)) → Now old (λ m. EachImage m (MeansOneLive contents))
+    → Through old new (MeansOneLive contents)
+lane_through lane other old new contents stays synced reads head means =
+    let went = subst (λ (l : ℕ). Goes IsSynced (lane_history lane old) (lane_history l new)) stays.lane_is synced in
+    through_weaker old new (λ file. IsHead lane file × MeansOne contents (lane_bytes lane file)) (MeansOneLive contents) (λ file here. one_in_file lane file contents here.0 here.1)
+    (through_lane lane old new (MeansOne contents) stays.went (sync_through (lane_history lane old) (lane_history lane new) (MeansOne contents) went (reads_of_lane lane old reads) (one_now lane old contents head means)) head)
+
+pub load_through : (lane other : ℕ) (old mid new : History) (contents : List Held) → Goes IsSynced old mid → Now old (λ m. IsImage m m.seen) → Now mid (λ m. IsImage m m.seen) → Now mid (λ m. EachImage m (IsHead lane))
+    → StaysBeside lane other mid new → Goes IsSynced (lane_history lane mid) (lane_history other new) → Now old (λ m. EachImage m (MeansOneLive contents)) → Through old new (MeansOneLive contents)
+load_through lane other old mid new contents went before reads head stays synced means =
+    let first = sync_through old mid (MeansOneLive contents) went before means in
+    through_trans old mid new (MeansOneLive contents) first (lane_through lane other mid new contents stays synced reads head (through_now old mid (MeansOneLive contents) first))

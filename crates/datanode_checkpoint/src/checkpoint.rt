@@ -1,4 +1,4 @@
-ghost use Rattle.std.specs.Prelude.{◌≡◌, ◌≤◌, ◌<◌, ◌++◌, ◌∷◌, [], List, Some, None, true, false, length, filter, IfOk, IfErr, OnOk, OnErr, MatchResult, IsTrue};
+ghost use Rattle.std.specs.Prelude.{◌≡◌, ◌↔◌, ◌≤◌, ◌<◌, ◌++◌, ◌∷◌, [], List, Some, None, true, false, length, filter, IfOk, IfErr, OnOk, OnErr, MatchResult, IsTrue};
 ghost use Rattle.std.specs.List.{list_any};
 ghost use Rattle.std.proofs.Props.{props};
 ghost use Rattle.disk_model.specs.Disk.{Moment, Now, EachImage, Goes, IsSynced, Through, clean};
@@ -8,7 +8,7 @@ ghost use Rattle.datanode_log.specs.Causes.{IsCaused, KeepsSure};
 ghost use Rattle.datanode_store.specs.Causes.{is_device, says_device, IsOutside};
 ghost use Rattle.salus_types.specs.declared.records.Held.{Held as AnyHeld};
 ghost use Rattle.salus_types.specs.Volume.{Shape};
-ghost use Rattle.datanode_store.specs.Live.{MeansLive, MeansLiveEither};
+ghost use Rattle.datanode_store.specs.Live.{MeansLive, MeansLiveEither, MeansOneLive};
 ghost use Rattle.datanode_store.specs.Meaning.{CanBeKept};
 ghost use Rattle.holding_model.specs.Holding.{OfPart, OfBase, ToSession, held_of, held_after};
 ghost use Rattle.datanode_log.specs.Entries.{entries_of};
@@ -98,6 +98,8 @@ impl<D: Disk> Checkpoint<D> {
         ensures refused { IfErr result (λ refused. Now (D.history disk) (λ old. RefusesLive refused.error old.seen)) }
         // A file that a checkpoint wrote is refused only by the device, or for want of memory.
         ensures written { IfErr result (λ refused. Now (D.history disk) (λ old. (held : AnyHeld) → MeansLive held old.seen → IsOutside refused.error)) }
+        // What each image means before, it means at each moment of the load: of some contents, one of them.
+        ensures any_moment { (contents : List AnyHeld) → Now (D.history disk) (λ old. EachImage old (MeansOneLive contents)) → MatchResult result (λ checkpoint. Through (D.history disk) (D.history checkpoint.store.log.disk.disk) (MeansOneLive contents)) (λ refused. Through (D.history disk) (D.history refused.disk) (MeansOneLive contents)) }
         ensures cause { MatchResult result (λ checkpoint. D.faults checkpoint.store.log.disk.disk ≡ D.faults disk) (λ refused. IsCaused (D.faults disk) (D.faults refused.disk) (is_device refused.error)) }
         ensures sure { MatchResult result (λ checkpoint. KeepsSure (D.is_sure disk) (D.is_sure checkpoint.store.log.disk.disk) false) (λ refused. KeepsSure (D.is_sure disk) (D.is_sure refused.disk) (is_device refused.error)) }
     {
@@ -212,9 +214,10 @@ impl<D: Disk> Checkpoint<D> {
         self.store.refold(made.0, made.1)
     }
 
-    /// Whether the open session can be folded: it has one base, and parts with blocks of its blocks' length.
+    /// Whether the open session can be folded: exactly where it has one base, and parts with blocks of its blocks'
+    /// length.
     pub fn can_fold(&self) -> bool
-        ensures { IsTrue result → CanBeFolded self.now.store.held }
+        ensures { IsTrue result ↔ CanBeFolded self.now.store.held }
     {
         can_fold(self.store.held())
     }

@@ -1,10 +1,10 @@
-ghost use Rattle.std.specs.Prelude.{◌≡◌, ◌≤◌, ◌<◌, length, filter, IsTrue};
-ghost use Rattle.std.specs.List.{AllByRecursion};
+ghost use Rattle.std.specs.Prelude.{◌≡◌, ◌≤◌, ◌<◌, ◌==◌, ◌↔◌, length, filter, IsTrue};
+ghost use Rattle.std.specs.List.{list_all};
 ghost use Rattle.client_tag.specs.Spelling.{size_of};
 ghost use Rattle.holding_model.specs.Changing.{is_open_base};
-ghost use Rattle.datanode_checkpoint.specs.Folds.{HasSize, CanBeFolded};
+ghost use Rattle.datanode_checkpoint.specs.Folds.{CanBeFolded, part_fits, base_fits};
 
-use salus_types::{Base, Blocks, Held, PlaceWrite};
+use salus_types::{Base, Blocks, Held, PlaceWrite, Record};
 
 // How long each block is; 0 where there is none.
 fn size_of(blocks: &Blocks) -> usize
@@ -18,39 +18,44 @@ fn size_of(blocks: &Blocks) -> usize
 
 // Whether the block of each write is so long.
 fn have_size(writes: &[PlaceWrite], size: usize) -> bool
-    ensures { IsTrue result → AllByRecursion (λ w. length w.bytes ≡ size) writes.now }
+    ensures { result ≡ list_all (λ w. length w.bytes == size) writes.now }
 {
-    'writes: for write in writes {
-        if write.bytes.len() != size {
-            return false;
-        }
-    }
-    true
+    writes.iter().all(|write| write.bytes.len() == size)
 }
 
-// Whether the parts of the open session have blocks as long as those of this base.
-fn parts_fit(held: &Held, base: &Base) -> bool
-    ensures { IsTrue result → AllByRecursion (λ rec. rec.header.session ≡ held.now.session → HasSize base.now rec) held.now.parts }
+// Whether the part is of another session, or has blocks of this length.
+fn part_fits(session: u64, size: usize, rec: &Record) -> bool
+    ensures { result ≡ part_fits session size rec.now }
 {
-    let size = size_of(&base.blocks);
-    'parts: for rec in held.parts.as_slice() {
-        if rec.header.session == held.session && !have_size(rec.writes.as_slice(), size) {
-            return false;
-        }
-    }
-    true
+    rec.header.session != session || have_size(rec.writes.as_slice(), size)
 }
 
-// Whether that is so of each base of the open session.
+// Whether the parts of the open session have blocks of this length.
+fn parts_fit(held: &Held, size: usize) -> bool
+    ensures { result ≡ list_all (λ rec. part_fits held.now.session size rec) held.now.parts }
+{
+    let session = held.session;
+    held.parts
+        .as_slice()
+        .iter()
+        .all(|rec| part_fits(session, size, rec))
+}
+
+// Whether the base is of another session, or the parts of the open session have blocks as long as its own.
+fn base_fits(held: &Held, base: &Base) -> bool
+    ensures { result ≡ base_fits held.now base.now }
+{
+    base.rec.header.session != held.session || parts_fit(held, size_of(&base.blocks))
+}
+
+// Whether that is so of each base.
 fn bases_fit(held: &Held) -> bool
-    ensures { IsTrue result → AllByRecursion (λ base. base.rec.header.session ≡ held.now.session → AllByRecursion (λ rec. rec.header.session ≡ held.now.session → HasSize base rec) held.now.parts) held.now.bases }
+    ensures { result ≡ list_all (λ base. base_fits held.now base) held.now.bases }
 {
-    'bases: for base in held.bases.as_slice() {
-        if base.rec.header.session == held.session && !parts_fit(held, base) {
-            return false;
-        }
-    }
-    true
+    held.bases
+        .as_slice()
+        .iter()
+        .all(|base| base_fits(held, base))
 }
 
 // How many bases the open session has.
@@ -68,7 +73,7 @@ fn count_open(held: &Held) -> usize
 
 /// Whether the open session has one base, and parts with blocks of its blocks' length.
 pub fn can_fold(held: &Held) -> bool
-    ensures { IsTrue result → CanBeFolded held.now }
+    ensures { IsTrue result ↔ CanBeFolded held.now }
 {
     count_open(held) == 1 && bases_fit(held)
 }

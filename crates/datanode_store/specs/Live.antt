@@ -1,5 +1,5 @@
 -- What a file of two lanes means.
-use Rattle.std.specs.Prelude.{◌≡◌, ◌⊎◌, ℕ, ◌≤◌, List, length, take}
+use Rattle.std.specs.Prelude.{◌≡◌, ◌⊎◌, ℕ, ◌≤◌, List, [], ◌∷◌, length, take}
 use Rattle.salus_types.specs.declared.records.Held.{Held}
 use Rattle.disk_lane.specs.Heads.{file_mark, live_bytes}
 use Rattle.datanode_store.specs.Meaning.{Means}
@@ -13,3 +13,8 @@ pub record MeansLive (held : Held) (file : List ℕ) : Type 0 where
 -- what was held, or what is
 abbrev pub MeansLiveEither : Held → Held → List ℕ → Type 0
 MeansLiveEither old new file = MeansLive old file ⊎ MeansLive new file
+
+-- one of these
+abbrev pub MeansOneLive : List Held → List ℕ → Type 0
+MeansOneLive [] file = ⊥
+MeansOneLive (held ∷ contents) file = MeansLive held file ⊎ MeansOneLive contents file

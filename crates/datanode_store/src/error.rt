@@ -1,5 +1,6 @@
-ghost use Rattle.std.specs.Prelude.{◌≡◌};
+ghost use Rattle.std.specs.Prelude.{◌≡◌, Some};
 ghost use Rattle.datanode_store.specs.Causes.{of_log};
+ghost use Rattle.datanode_store.specs.Words.{store_words};
 
 use datanode_log::LogError;
 use std::error::Error;
@@ -21,6 +22,8 @@ pub enum StoreError {
 }
 
 impl fmt::Display for StoreError {
+    ghost output = { λ error. Some (store_words error) };
+
     fn fmt<W: fmt::Write>(&self, f: &mut fmt::Formatter<W>) -> fmt::Result {
         match self {
             StoreError::Foreign => write!(f, "not a store"),

@@ -18,9 +18,11 @@ use Rattle.salus_model.specs.Licences.{HoldsBase}
 use Rattle.replica_rules.specs.Views.{view_root}
 use Rattle.replica_rules.specs.Nodes.{NodeState, stands_for, base_held}
 use Rattle.replica_rules.specs.Rules.{Turn, Plan, plan_of, ignored, told_client, is_carried, by_gather, says_staged, staged, staged_again, staged_whole, staged_from, staged_anew, is_staged_here, by_stage, same_record, says_switched, switched, by_switch, Input, planned}
-use Rattle.replica_rules.proofs.Lists.{either_way, all_then, OfSome, some_way, any_way}
-use Rattle.replica_rules.proofs.Elements.{among_right, way_with, found_among, and_left}
 use Rattle.replica_rules.proofs.Turns.{IsPlain, planned_is}
+use Rattle.list_lemmas.proofs.Each.{either_way, all_then, OfSome, some_way, any_way}
+use Rattle.merkle_region.proofs.Membership.{among_right}
+use Rattle.list_lemmas.proofs.Tests.{way_with, and_left}
+use Rattle.list_lemmas.proofs.Members.{found_among}
 
 -- by what is held before the step, and after it
 abbrev pub Behind : Held → Held → Message → Type 0

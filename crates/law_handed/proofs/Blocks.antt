@@ -8,7 +8,7 @@ use Rattle.salus_types.specs.declared.records.Trim.{Trim}
 use Rattle.salus_types.specs.declared.records.PlaceWrite.{PlaceWrite}
 use Rattle.salus_types.specs.declared.records.Record.{Record}
 use Rattle.holding_model.specs.Fitting.{ascends_from, writes_fit, run_fits, record_fits, blocks_written, blocks_zeroed, blocks_after, has_shape}
-use Rattle.replica_rules.proofs.Elements.{and_left, and_right}
+use Rattle.list_lemmas.proofs.Tests.{and_left, and_right}
 use Rattle.law_handed.specs.Fitting.{IsSpelled, IsClosed, IsShaped}
 
 and_both : (a b : Bool) → a ≡ true → b ≡ true → (a && b) ≡ true

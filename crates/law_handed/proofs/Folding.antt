@@ -14,8 +14,10 @@ use Rattle.holding_model.specs.Fitting.{has_content}
 use Rattle.salus_model.specs.Licences.{HoldsPart, HoldsStill}
 use Rattle.holding_model.specs.Changing.{FoldsTo, is_folded, is_open_base, base_after, base_after_all, folded, changed}
 use Rattle.replica_rules.specs.Nodes.{open_parts}
-use Rattle.replica_rules.proofs.Elements.{among_left, among_right, among_all, among_map, among_filter, by_bool, all_pass, and_left}
-use Rattle.replica_rules.proofs.Lists.{either_way}
+use Rattle.merkle_region.proofs.Membership.{among_left, among_right}
+use Rattle.list_lemmas.proofs.Members.{among_all, among_map-in, among_filter-in}
+use Rattle.list_lemmas.proofs.Tests.{by_bool, and_left}
+use Rattle.list_lemmas.proofs.Each.{all_pass, either_way}
 use Rattle.law_handed.proofs.Staying.{base_session, gone_session}
 
 -- the numbers rise from that one on, and each part has content
@@ -96,7 +98,7 @@ module _ (shape : Shape) where
       let next : Base = base_after_all shape base gone in
       let rises : Rises base.rec.header.seq gone = gone_rises held n f in
       let mine : IsAmong base here = subst (λ (l : List Base). IsAmong base l) (sym f.only) (inl refl) in
-      let next_held : IsAmong next now.bases = among_left next (map (λ b. base_after_all shape b gone) here) later (among_map (λ b. base_after_all shape b gone) here base mine) in
+      let next_held : IsAmong next now.bases = among_left next (map (λ b. base_after_all shape b gone) here) later (among_map-in (λ b. base_after_all shape b gone) here base mine) in
       let is_open : base.rec.header.session ≡ held.session = eqb-true base.rec.header.session held.session (among_all (λ b. is_open_base held b ≡ true) here base mine (all_pass (λ b. is_open_base held b) held.bases)) in
       let next_open : next.rec.header.session ≡ held.session = base_session shape held.session base gone is_open (gone_session shape held n) in
       let content : has_content next.rec.writes next.rec.run ≡ true =
@@ -110,17 +112,17 @@ module _ (shape : Shape) where
       ⊎_elim (λ (among : IsAmong rec held.parts).
       by_bool (is_folded held n rec) (HoldsStill (message.Prepared m) now)
       (λ pass.
-      let among_gone : IsAmong rec gone = among_filter (λ r. is_folded held n r) held.parts rec among pass in
+      let among_gone : IsAmong rec gone = among_filter-in (λ r. is_folded held n r) held.parts rec among pass in
       let under : rec.header.seq ≤ next.rec.header.seq = among_all (λ r. r.header.seq ≤ next.rec.header.seq) gone rec among_gone (last_above base gone rises) in
       let ours : rec.header.session ≡ held.session = eqb-true rec.header.session held.session (and_left (rec.header.session == held.session) (nat_le rec.header.seq n) pass) in
       let far : m.seq ≤ next.rec.header.seq = omega arith in
       inr (rec, is_of, is_at, old.3, record { either = inr (next, next_held, next_open ∙ sym ours ∙ is_of, far, content) }))
-      (λ fail. inr (rec, is_of, is_at, old.3, record { either = inl (among_filter (λ r. not (is_folded held n r)) held.parts rec among (ap not fail)) })))
+      (λ fail. inr (rec, is_of, is_at, old.3, record { either = inl (among_filter-in (λ r. not (is_folded held n r)) held.parts rec among (ap not fail)) })))
       (λ (other : (b : Base) × IsAmong b held.bases × (b.rec.header.session ≡ m.session) × (m.seq ≤ b.rec.header.seq) × (has_content b.rec.writes b.rec.run ≡ true)).
       let b : Base = other.0 in
       by_bool (is_open_base held b) (HoldsStill (message.Prepared m) now)
       (λ pass.
-      let one : b ≡ base = only_one b base (subst (λ (l : List Base). IsAmong b l) f.only (among_filter (λ c. is_open_base held c) held.bases b other.1 pass)) in
+      let one : b ≡ base = only_one b base (subst (λ (l : List Base). IsAmong b l) f.only (among_filter-in (λ c. is_open_base held c) held.bases b other.1 pass)) in
       let ours : b.rec.header.session ≡ held.session = eqb-true b.rec.header.session held.session pass in
       let same : b.rec.header.seq ≡ base.rec.header.seq = ap (λ (c : Base). c.rec.header.seq) one in
       let reach : base.rec.header.seq ≤ next.rec.header.seq = last_at_least base gone rises in
@@ -128,7 +130,7 @@ module _ (shape : Shape) where
       let far : m.seq ≤ next.rec.header.seq = omega arith in
       inr (rec, is_of, is_at, old.3, record { either = inr (next, next_held, next_open ∙ sym ours ∙ other.2, far, content) }))
       (λ fail. by_bool (nat_lt held.session b.rec.header.session) (HoldsStill (message.Prepared m) now)
-      (λ above. inr (rec, is_of, is_at, old.3, record { either = inr (b, among_right b (map (λ c. base_after_all shape c gone) here) later (among_filter (λ c. nat_lt held.session c.rec.header.session) held.bases b other.1 above), other.2, other.3, other.4) }))
+      (λ above. inr (rec, is_of, is_at, old.3, record { either = inr (b, among_right b (map (λ c. base_after_all shape c gone) here) later (among_filter-in (λ c. nat_lt held.session c.rec.header.session) held.bases b other.1 above), other.2, other.3, other.4) }))
       (λ under.
       let differ : b.rec.header.session ≡ held.session → ⊥ = eqb-false b.rec.header.session held.session fail in
       let most : b.rec.header.session ≤ held.session = ltb-false held.session b.rec.header.session under in

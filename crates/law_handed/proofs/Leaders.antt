@@ -22,8 +22,8 @@ use Rattle.salus_model.specs.Licences.{Letter, WasHanded, HasVoted, IsUnanimous,
 use Rattle.replica_rules.specs.Views.{led_by}
 use Rattle.replica_rules.specs.Voting.{Vote, Votes, Claims, share_place, is_above_vote, with_vote, root_in, is_root, all_one, is_unanimous_in, is_unanimous, greater, with_claim, all_claim}
 use Rattle.replica_rules.specs.Leading.{Leader, new_leader, put_header, is_passed, with_header, with_led, noted_with, is_after_claimed, is_certified, all_certified, front_after}
-use Rattle.replica_rules.proofs.Lists.{either_way, all_filter, all_then, OfSome}
-use Rattle.replica_rules.proofs.Elements.{and_left, and_right, all_pass, all_zip, way_with}
+use Rattle.list_lemmas.proofs.Each.{either_way, all_filter, all_then, OfSome, all_pass, all_zip}
+use Rattle.list_lemmas.proofs.Tests.{and_left, and_right, way_with}
 use Rattle.law_handed.proofs.Licensed.{Came}
 
 pub node_same : (a b : NodeName) → same_node a b ≡ true → a ≡ b

@@ -6,12 +6,15 @@ pub mod Whole
 pub mod Sane
 pub mod Soundly
 pub mod Standing
+pub mod Agreed
 pub mod Blocks
 pub mod Shaping
 pub mod Carrying
 pub mod Ranged
 pub mod Behind
+pub mod Counting
 pub mod Licensed
 pub mod Leaders
 pub mod Claimed
 pub mod Granted
+pub mod FirstHeld

@@ -21,13 +21,14 @@ use Rattle.salus_model.specs.Following.{Posted, posted_at}
 use Rattle.salus_model.specs.Licences.{Letter, letter_of, letter_in_post, letters_in, letters_to}
 use Rattle.replica_rules.specs.Nodes.{Memory, loaded_as}
 use Rattle.replica_rules.specs.Rules.{Sending, Input, planned, Handled, handled}
-use Rattle.replica_rules.proofs.Lists.{either_way, all_both, all_map, all_then, OfSome, some_way}
 use Rattle.replica_rules.proofs.Keeping.{OfHeld, OfMemory, OfLetter, OfResult, OfInput, fresh_of, planned_of, contents_through_of, handled_of}
 use Rattle.replica_rules.proofs.Telling.{TellsHeld, planned_tell}
 use Rattle.run_rules.specs.Knowing.{KnownNode, speaking, silenced, fresh, after_handling, after_input, outs_of, input_of_post, input_of, after_handed, outs_to, reloaded, known_to, IsLoadOf, LoadsRight}
 use Rattle.run_rules.specs.Running.{addresses, after, known_of, IsStepOf, AllSteps}
+use Rattle.list_lemmas.proofs.Each.{either_way, all_both, all_map, all_then, OfSome, some_way}
+use Rattle.merkle_region.proofs.Membership.{among_left, among_right}
+use Rattle.list_lemmas.proofs.Members.{among_all, all_among, among_map-in}
 use Rattle.law_handed.specs.Bringing.{HasOrigin, HeldWasHanded, TellsWhatWasHanded}
-use Rattle.replica_rules.proofs.Elements.{among_left, among_right, among_all, all_among, among_map}
 
 -- ---- a node, by whatever holds of the records that it is handed
 
@@ -162,7 +163,7 @@ module _ (first : Held) where
 
   held_at_first : OfHeld (HasOrigin first []) first
   held_at_first = record {
-    bases = all_among (λ base. HasOrigin first [] base.rec) first.bases (λ base among. inl (among_left base.rec (map (λ b. b.rec) first.bases) first.parts (among_map (λ b. b.rec) first.bases base among)));
+    bases = all_among (λ base. HasOrigin first [] base.rec) first.bases (λ base among. inl (among_left base.rec (map (λ b. b.rec) first.bases) first.parts (among_map-in (λ b. b.rec) first.bases base among)));
     parts = all_among (HasOrigin first []) first.parts (λ rec among. inl (among_right rec (map (λ b. b.rec) first.bases) first.parts among));
   }
 

@@ -21,10 +21,10 @@ use Rattle.salus_model.specs.Following.{Posted, posted_at}
 use Rattle.salus_model.specs.Licences.{Letter, letter_of, letter_in_post, letters_in, letters_to}
 use Rattle.replica_rules.specs.Nodes.{loaded_as}
 use Rattle.replica_rules.specs.Rules.{Input, is_carried, planned, Handled, handled}
-use Rattle.replica_rules.proofs.Lists.{either_way, all_then, OfSome, some_way}
-use Rattle.replica_rules.proofs.Elements.{among_all}
 use Rattle.run_rules.specs.Knowing.{KnownNode, speaking, silenced, fresh, after_handling, after_input, outs_of, input_of_post, input_of, after_handed, outs_to, reloaded, known_to, IsLoadOf, LoadsRight}
 use Rattle.run_rules.specs.Running.{addresses, after, known_of, IsStepOf, AllSteps}
+use Rattle.list_lemmas.proofs.Each.{either_way, all_then, OfSome, some_way}
+use Rattle.list_lemmas.proofs.Members.{among_all}
 use Rattle.law_handed.specs.Fitting.{IsSpelled, HeldFits, IsClosed, FromGiven, LetterGiven, IsShaped, ShowsFitting}
 use Rattle.law_handed.proofs.Blocks.{spelled_closed}
 use Rattle.law_handed.proofs.Shaping.{MemoryFits, ResultGiven, InputGiven, fresh_of, planned_of, contents_through_of, handled_of}

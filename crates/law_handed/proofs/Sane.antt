@@ -9,25 +9,31 @@ use Rattle.salus_types.specs.declared.records.Record.{Record}
 use Rattle.salus_types.specs.declared.records.Base.{Base}
 use Rattle.salus_types.specs.declared.records.Held.{Held}
 use Rattle.merkle_region.specs.Tree.{IsAmong}
+use Rattle.replica_rules.specs.Views.{View, view_of_base}
 use Rattle.replica_rules.specs.Replicas.{Applied}
 use Rattle.holding_model.specs.Changing.{AddsPart, FoldsTo, is_folded, is_open_base, base_after_all, folded, changed, after_changes}
 use Rattle.replica_rules.specs.Nodes.{Memory, open_parts}
 use Rattle.replica_rules.specs.Rules.{stored, after_fold}
-use Rattle.replica_rules.proofs.Lists.{all_then}
-use Rattle.replica_rules.proofs.Elements.{among_all, by_bool, all_pass}
+use Rattle.list_lemmas.proofs.Each.{all_then, all_pass}
+use Rattle.list_lemmas.proofs.Members.{among_all}
+use Rattle.list_lemmas.proofs.Tests.{by_bool}
 use Rattle.law_handed.proofs.Staying.{base_session, gone_session}
-use Rattle.law_handed.proofs.Folding.{Rises, Foldable, filter_both}
-use Rattle.law_handed.proofs.Whole.{end_of, IsOurs, rises_both, end_both, AppliedFrom, up_to, above_it, Split, split}
+use Rattle.law_handed.proofs.Folding.{Foldable, filter_both}
+use Rattle.law_handed.proofs.Whole.{Leads, IsOurs, leads_rises, leads_both, AppliedFrom, above_it, Split, split}
 
--- the one base, and the parts that rise from it to that number
-pub record IsWhole (held : Held) (number : ℕ) : Type 0 where
-  pub foldable : Foldable held
-  pub top : end_of foldable.base.rec.header.seq (open_parts held) ≡ number
+-- the one base, and the parts that lead from it to that view
+pub record IsWhole (shape : Shape) (held : Held) (view : View) : Type 0 where
+  pub base : Base
+  pub only : filter (λ b. is_open_base held b) held.bases ≡ base ∷ []
+  pub leads : Leads shape (view_of_base base) (open_parts held) view
 
-pub record Sane (held : Held) (m : Memory) : Type 0 where
+pub record Sane (shape : Shape) (held : Held) (m : Memory) : Type 0 where
   pub session : m.replica.session ≡ held.session
   pub early : AllByRecursion (IsOurs held.session) m.replica.early
-  pub whole : m.whole ≡ true → IsWhole held m.replica.view.number
+  pub whole : m.whole ≡ true → IsWhole shape held m.replica.view
+
+pub foldable_of : (shape : Shape) (held : Held) (view : View) → IsWhole shape held view → Foldable held
+foldable_of shape held view w = record { base = w.base; only = w.only; rises = leads_rises shape (view_of_base w.base) (open_parts held) view w.leads }
 
 -- ---- lists
 
@@ -91,41 +97,50 @@ module _ (shape : Shape) where
   added_held held [] = ap (λ l. record { session = held.session; bases = held.bases; parts = l }) (sym (append-nil held.parts))
   added_held held (rec ∷ parts) = added_held (changed shape held (AddsPart rec)) parts ∙ ap (λ l. record { session = held.session; bases = held.bases; parts = l }) (append_assoc held.parts (rec ∷ []) parts)
 
-  whole_with : (held : Held) (low : ℕ) (parts : List Record) (top : ℕ) → AllByRecursion (λ rec. rec.header.session ≡ held.session) parts → Rises low parts → end_of low parts ≡ top
-      → IsWhole held low → IsWhole (with_parts held parts) top
+  whole_with : (held : Held) (view : View) (parts : List Record) (now : View) → AllByRecursion (λ rec. rec.header.session ≡ held.session) parts → Leads shape view parts now
+      → IsWhole shape held view → IsWhole shape (with_parts held parts) now
   unfolding with_parts
-  whole_with held low parts top ours rises ends w =
-      let f : Foldable held = w.foldable in
+  whole_with held view parts now ours leads w =
       let t : Record → Bool = λ rec. rec.header.session == held.session in
       let same : open_parts (with_parts held parts) ≡ open_parts held ++ parts =
       filter_append t held.parts parts ∙ ap (λ l. open_parts held ++ l) (filter_all t parts (all_then (λ rec. rec.header.session ≡ held.session) (λ rec. t rec ≡ true) (λ rec e. eq-eqb rec.header.session held.session e) parts ours)) in
-      let on : Rises (end_of f.base.rec.header.seq (open_parts held)) parts = subst (λ (x : ℕ). Rises x parts) (sym w.top) rises in
       record {
-        foldable = record { base = f.base; only = f.only; rises = subst (λ (l : List Record). Rises f.base.rec.header.seq l) (sym same) (rises_both f.base.rec.header.seq (open_parts held) parts f.rises on) };
-        top = ap (λ l. end_of f.base.rec.header.seq l) same ∙ end_both f.base.rec.header.seq (open_parts held) parts ∙ ap (λ x. end_of x parts) w.top ∙ ends;
+        base = w.base;
+        only = w.only;
+        leads = subst (λ (l : List Record). Leads shape (view_of_base w.base) l now) (sym same) (leads_both shape (view_of_base w.base) (open_parts held) parts view now w.leads leads);
       }
 
-  pub stored_sane : (g : ℕ) (held : Held) (m : Memory) (applied : Applied) → Sane held m → AppliedFrom held.session m.replica.view.number applied
-      → Sane (after_changes shape held (map (λ rec. AddsPart rec) applied.parts)) (stored shape g m applied).memory
+  pub stored_sane : (g : ℕ) (held : Held) (m : Memory) (applied : Applied) → Sane shape held m → AppliedFrom shape held.session m.replica.view applied
+      → Sane shape (after_changes shape held (map (λ rec. AddsPart rec) applied.parts)) (stored shape g m applied).memory
   unfolding with_parts
   stored_sane g held m applied sane from =
-      subst (λ (h : Held). Sane h (stored shape g m applied).memory) (sym (added_held held applied.parts))
-      (record { session = from.session; early = from.kept; whole = λ w. whole_with held m.replica.view.number applied.parts applied.replica.view.number from.ours from.rises from.top (sane.whole w) })
+      subst (λ (h : Held). Sane shape h (stored shape g m applied).memory) (sym (added_held held applied.parts))
+      (record { session = from.session; early = from.kept; whole = λ w. whole_with held m.replica.view applied.parts applied.replica.view from.ours from.leads (sane.whole w) })
 
   -- ---- a fold
 
-  fold_whole : (held : Held) (n number : ℕ) (gone : List Record) → IsWhole held number → IsWhole (folded shape held n gone) number
-  fold_whole held n number [] w = w
-  fold_whole held n number (first ∷ rest) w =
-      let f : Foldable held = w.foldable in
-      let base : Base = f.base in
+  -- the parts that are folded lead to the base after them
+  folded_split : (held : Held) (n : ℕ) (view : View) (w : IsWhole shape held view)
+      → Split shape n w.base (filter (λ rec. is_folded held n rec) held.parts) (above_it shape n (open_parts held)) view
+  folded_split held n view w =
+      subst (λ (l : List Record). Split shape n w.base l (above_it shape n (open_parts held)) view) (sym (filter_both (λ rec. rec.header.session == held.session) (λ rec. nat_le rec.header.seq n) held.parts))
+      (split shape n w.base (open_parts held) view w.leads)
+
+  pub gone_leads : (held : Held) (n : ℕ) (view : View) (w : IsWhole shape held view) → let gone : List Record = filter (λ rec. is_folded held n rec) held.parts in
+      Leads shape (view_of_base w.base) gone (view_of_base (base_after_all shape w.base gone))
+  gone_leads held n view w = (folded_split held n view w).0
+
+  fold_whole : (held : Held) (n : ℕ) (view : View) (gone : List Record) → IsWhole shape held view → IsWhole shape (folded shape held n gone) view
+  fold_whole held n view [] w = w
+  fold_whole held n view (first ∷ rest) w =
+      let base : Base = w.base in
       let t : Base → Bool = λ b. is_open_base held b in
       let gone : List Record = filter (λ rec. is_folded held n rec) held.parts in
       let now : Held = folded shape held n (first ∷ rest) in
       let next : Base = base_after_all shape base gone in
       let fold_of : Base → Base = λ b. base_after_all shape b gone in
       let later : List Base = filter (λ b. nat_lt held.session b.rec.header.session) held.bases in
-      let mine : IsAmong base (filter t held.bases) = subst (λ (l : List Base). IsAmong base l) (sym f.only) (inl refl) in
+      let mine : IsAmong base (filter t held.bases) = subst (λ (l : List Base). IsAmong base l) (sym w.only) (inl refl) in
       let is_open : base.rec.header.session ≡ held.session = eqb-true base.rec.header.session held.session (among_all (λ b. t b ≡ true) (filter t held.bases) base mine (all_pass t held.bases)) in
       let next_open : next.rec.header.session ≡ held.session = base_session shape held.session base gone is_open (gone_session shape held n) in
       let none_later : filter t later ≡ [] = filter_none t later (all_then (λ b. nat_lt held.session b.rec.header.session ≡ true) (λ b. t b ≡ false)
@@ -134,21 +149,16 @@ module _ (shape : Shape) where
       later (all_pass (λ b. nat_lt held.session b.rec.header.session) held.bases)) in
       let only_next : filter t now.bases ≡ next ∷ [] =
       filter_append t (map fold_of (filter t held.bases)) later ∙ ap (λ l. filter t (map fold_of (filter t held.bases)) ++ l) none_later ∙ append-nil (filter t (map fold_of (filter t held.bases)))
-      ∙ ap (λ l. filter t (map fold_of l)) f.only ∙ ap (λ v. if v then next ∷ [] else []) (eq-eqb next.rec.header.session held.session next_open) in
-      let ours : gone ≡ up_to shape n (open_parts held) = filter_both (λ rec. rec.header.session == held.session) (λ rec. nat_le rec.header.seq n) held.parts in
+      ∙ ap (λ l. filter t (map fold_of l)) w.only ∙ ap (λ v. if v then next ∷ [] else []) (eq-eqb next.rec.header.session held.session next_open) in
       let left : open_parts now ≡ above_it shape n (open_parts held) =
       filter_rest (λ rec. rec.header.session == held.session) (λ rec. nat_le rec.header.seq n) (λ rec. nat_lt n rec.header.seq) (λ rec. lt_not_le n rec.header.seq) held.parts in
-      let parted : Split shape n (base_after_all shape base (up_to shape n (open_parts held))).rec.header.seq (above_it shape n (open_parts held)) base.rec.header.seq (open_parts held) = split shape n base (open_parts held) f.rises in
-      let here : Split shape n next.rec.header.seq (open_parts now) base.rec.header.seq (open_parts held) =
-      subst (λ (l : List Record). Split shape n next.rec.header.seq l base.rec.header.seq (open_parts held)) (sym left)
-      (subst (λ (l : List Record). Split shape n (base_after_all shape base l).rec.header.seq (above_it shape n (open_parts held)) base.rec.header.seq (open_parts held)) (sym ours) parted) in
-      record { foldable = record { base = next; only = only_next; rises = here.0 }; top = here.1 ∙ w.top }
+      record { base = next; only = only_next; leads = subst (λ (l : List Record). Leads shape (view_of_base next) l view) (sym left) (folded_split held n view w).1 }
 
   fold_session : (held : Held) (n : ℕ) (gone : List Record) → (folded shape held n gone).session ≡ held.session
   fold_session held n [] = refl
   fold_session held n (rec ∷ gone) = refl
 
-  pub fold_sane : (held : Held) (n : ℕ) (m : Memory) → Sane held m → Sane (changed shape held (FoldsTo n)) (after_fold m n)
+  pub fold_sane : (held : Held) (n : ℕ) (m : Memory) → Sane shape held m → Sane shape (changed shape held (FoldsTo n)) (after_fold m n)
   unfolding changed
   fold_sane held n m sane =
       let gone : List Record = filter (λ rec. is_folded held n rec) held.parts in
@@ -156,5 +166,5 @@ module _ (shape : Shape) where
       record {
         session = sane.session ∙ same;
         early = subst (λ (s : ℕ). AllByRecursion (IsOurs s) m.replica.early) same sane.early;
-        whole = λ w. fold_whole held n m.replica.view.number gone (sane.whole w);
+        whole = λ w. fold_whole held n m.replica.view gone (sane.whole w);
       }

@@ -27,8 +27,8 @@ use Rattle.replica_rules.specs.Voting.{with_vote, with_claim}
 use Rattle.holding_model.specs.Changing.{Change, AddsPart, AddsBase, SwitchesTo, FoldsTo, is_folded, is_open_base, base_after, base_after_all, folded, changed, after_changes, contents_through}
 use Rattle.replica_rules.specs.Nodes.{Memory, NodeState, stands_for, base_held, goes_on, counted, all_tried, open_parts, memory_of, open_base, loaded_as}
 use Rattle.replica_rules.specs.Rules.{Turn, Plan, quiet, plan_of, ignored, told_client, in_session, then_claims, stored, part_answered, by_part, ask_taken, by_ask, is_carried, by_gather, says_staged, staged, staged_again, staged_whole, staged_from, staged_anew, is_staged_here, by_stage, same_record, says_switched, switched, by_switch, dumped, by_dump, with_leader, by_vote, fold_number, folds, after_fold, then_fold, by_claim, by_tick, from_client, is_node, from_node, from_sender, from_result, Input, Receives, Ticks, planned, handled}
-use Rattle.replica_rules.proofs.Lists.{either_way, all_both, all_filter, all_map, OfSome, found_of_all, some_way, any_way}
-use Rattle.replica_rules.proofs.Elements.{way_with, and_left, and_right}
+use Rattle.list_lemmas.proofs.Each.{either_way, all_both, all_filter, all_map, OfSome, found_of_all, some_way, any_way}
+use Rattle.list_lemmas.proofs.Tests.{way_with, and_left, and_right}
 use Rattle.law_handed.specs.Fitting.{PartFits, BaseFits, HeldFits, IsClosed, MessageGiven, FromGiven}
 
 -- ---- what fits

@@ -24,12 +24,14 @@ use Rattle.replica_rules.specs.Views.{view_root}
 use Rattle.holding_model.specs.Changing.{Change, AddsPart, AddsBase, SwitchesTo, FoldsTo, is_folded, is_open_base, base_after, base_after_all, folded, changed, after_changes, contents_through}
 use Rattle.replica_rules.specs.Nodes.{NodeState, stands_for, base_held, loaded_as}
 use Rattle.replica_rules.specs.Rules.{Sending, Turn, Plan, plan_of, ignored, told_client, is_carried, by_gather, says_staged, staged, staged_again, staged_whole, staged_from, staged_anew, is_staged_here, by_stage, same_record, says_switched, switched, by_switch, Input, planned, Handled, handled}
-use Rattle.replica_rules.proofs.Lists.{either_way, all_both, all_map, all_then, OfSome, some_way, any_way}
 use Rattle.replica_rules.proofs.Turns.{IsAdded, IsPlain, planned_is}
 use Rattle.run_rules.specs.Knowing.{KnownNode, silenced, fresh, after_input, outs_of, input_of, after_handed, outs_to, reloaded, known_to, IsLoadOf, LoadsRight}
 use Rattle.run_rules.specs.Running.{addresses, after, known_of, IsStepOf, AllSteps}
+use Rattle.list_lemmas.proofs.Each.{either_way, all_both, all_map, all_then, OfSome, some_way, any_way, all_pass}
+use Rattle.merkle_region.proofs.Membership.{among_left, among_right}
+use Rattle.list_lemmas.proofs.Members.{among_all, among_map-in, among_filter-in, found_among}
+use Rattle.list_lemmas.proofs.Tests.{by_bool, way_with, and_left}
 use Rattle.law_handed.specs.Lasting.{Stays, AllStay, told_by, told_after, told_of}
-use Rattle.replica_rules.proofs.Elements.{among_left, among_right, among_all, among_map, among_filter, by_bool, way_with, found_among, all_pass, and_left}
 
 -- ---- through a change
 
@@ -66,11 +68,11 @@ module _ (shape : Shape) where
       (λ pass. inr (
         base_after_all shape base.0 gone,
         among_left (base_after_all shape base.0 gone) (map (λ b. base_after_all shape b gone) here) later
-            (among_map (λ b. base_after_all shape b gone) here base.0 (among_filter (λ b. is_open_base held b) held.bases base.0 base.1 pass)),
+            (among_map-in (λ b. base_after_all shape b gone) here base.0 (among_filter-in (λ b. is_open_base held b) held.bases base.0 base.1 pass)),
         base_session held.session base.0 gone (eqb-true base.0.rec.header.session held.session pass) (gone_session held n) ∙ sym (eqb-true base.0.rec.header.session held.session pass) ∙ base.2,
       ))
       (λ fail. by_bool (nat_lt held.session base.0.rec.header.session) (StillStaged e now)
-      (λ above. inr (base.0, among_right base.0 (map (λ b. base_after_all shape b gone) here) later (among_filter (λ b. nat_lt held.session b.rec.header.session) held.bases base.0 base.1 above), base.2))
+      (λ above. inr (base.0, among_right base.0 (map (λ b. base_after_all shape b gone) here) later (among_filter-in (λ b. nat_lt held.session b.rec.header.session) held.bases base.0 base.1 above), base.2))
       (λ under. let differ : base.0.rec.header.session ≡ held.session → ⊥ = eqb-false base.0.rec.header.session held.session fail in
       let most : base.0.rec.header.session ≤ held.session = ltb-false held.session base.0.rec.header.session under in
       let same : base.0.rec.header.session ≡ e = base.2 in
@@ -83,7 +85,7 @@ module _ (shape : Shape) where
   staged_on e held (SwitchesTo next) on still =
       ⊎_elim (λ (less : e < held.session). let more : e < next = omega arith in inl more) (λ (base : HoldsBase e held).
       by_bool (nat_le next base.0.rec.header.session) (StillStaged e (changed shape held (SwitchesTo next)))
-      (λ pass. inr (base.0, among_filter (λ b. nat_le next b.rec.header.session) held.bases base.0 base.1 pass, base.2))
+      (λ pass. inr (base.0, among_filter-in (λ b. nat_le next b.rec.header.session) held.bases base.0 base.1 pass, base.2))
       (λ fail. let under : base.0.rec.header.session < next = leb-false next base.0.rec.header.session fail in
       let same : base.0.rec.header.session ≡ e = base.2 in
       let less : e < next = omega arith in inl less)) still

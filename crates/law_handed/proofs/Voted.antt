@@ -10,10 +10,10 @@ use Rattle.salus_model.specs.declared.trace.TraceStep.{TraceStep}
 use Rattle.salus_model.specs.Following.{Posted}
 use Rattle.replica_rules.specs.Nodes.{NodeState, loaded_as}
 use Rattle.replica_rules.specs.Rules.{Sending, Input, planned}
-use Rattle.replica_rules.proofs.Lists.{OfSome}
 use Rattle.replica_rules.proofs.Agreeing.{AllHeld, IsHeldVote, AllVotes, PlansRight, fresh_agrees, planned_right}
 use Rattle.run_rules.specs.Knowing.{KnownNode, fresh, after_input, outs_of, input_of, after_handed, outs_to, reloaded, known_to}
 use Rattle.run_rules.specs.Running.{addresses, after, known_of}
+use Rattle.list_lemmas.proofs.Each.{OfSome}
 
 -- the parts that a node has in memory are among those that it holds
 abbrev pub Agrees : KnownNode → Type 0

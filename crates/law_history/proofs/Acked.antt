@@ -11,7 +11,8 @@ use Rattle.salus_model.specs.Judge.{Judge, judged_all, AlongLines}
 use Rattle.salus_model.specs.Hearing.{News}
 use Rattle.salus_model.specs.Waiting.{Taken, unended}
 use Rattle.salus_model.specs.Due.{ack_due, acks_due, all_claim, barriers_due}
-use Rattle.law_history.proofs.Fairly.{IsFair, AreFair, along_joined, judged_all-append}
+use Rattle.law_lemmas.proofs.Judged.{judged_all-append}
+use Rattle.law_history.proofs.Fairly.{IsFair, AreFair, along_joined}
 use Rattle.law_history.proofs.Joined.{AreGood}
 use Rattle.law_history.proofs.Barriers.{with_barriers-fair, barriers-judged}
 

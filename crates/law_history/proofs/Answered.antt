@@ -17,15 +17,15 @@ use Rattle.salus_model.specs.Hearing.{Past, since, opens}
 use Rattle.salus_model.specs.Waiting.{Taken, is_write, has_ended, all_taken, live, Question, questions}
 use Rattle.salus_model.specs.Answering.{Verdict, Stale, Good, Struck, verdict_of, is_answer, is_fitting, is_known, strikes_with, all_struck}
 use Rattle.salus_model.specs.Due.{with_barriers, others_known, due_good, due_struck, due_verdict, due_answer_to, due_answer}
-use Rattle.law_history.proofs.Members.{among_filter, among_filter-in, find_among}
-use Rattle.law_history.proofs.Numbered.{IsSized}
+use Rattle.list_lemmas.proofs.Members.{among_filter, among_filter-in, find_among}
+use Rattle.list_lemmas.proofs.Tests.{and_four}
+use Rattle.law_lemmas.proofs.Numbered.{IsSized}
 use Rattle.law_history.proofs.Chosen.{HasContents}
 use Rattle.law_history.proofs.Fairly.{IsRequested, AreFair, IsKept, unended_parts}
 use Rattle.law_history.proofs.Joined.{AreGood, good_filter}
 use Rattle.law_history.proofs.Barriers.{with_barriers-fair}
 use Rattle.law_history.proofs.Questioned.{IsAskedBy, IsQuestion, question}
 use Rattle.law_history.proofs.Carrying.{good_block}
-use Rattle.law_history.proofs.Chained.{and_four}
 
 module _ (shape : Shape) (events : List Event) (history : List Past) (m : ℕ) (judge : Judge) (sized : IsSized shape judge.now)
     (good : AreGood shape events m (all_taken (since opens history))) (kept : IsKept (all_taken (since opens history)) m judge) where
@@ -44,7 +44,7 @@ module _ (shape : Shape) (events : List Event) (history : List Past) (m : ℕ) (
 
   among_live : (r : Taken) → IsAmong r all → has_ended judge r.event ≡ false → IsAmong r (live history judge)
   unfolding live
-  among_live r among waits = among_filter-in (λ x. not (has_ended judge x.event)) r all among (not_from_false (has_ended judge r.event) waits)
+  among_live r among waits = among_filter-in (λ x. not (has_ended judge x.event)) all r among (not_from_false (has_ended judge r.event) waits)
 
   -- ---- a read
 

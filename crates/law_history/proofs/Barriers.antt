@@ -12,8 +12,9 @@ use Rattle.salus_model.specs.declared.trace.Request.TheVariants as request
 use Rattle.salus_model.specs.Judge.{Judge, is_among, front_of, judged_all, AlongLines}
 use Rattle.salus_model.specs.Waiting.{Taken, has_ended, unended, left_of}
 use Rattle.salus_model.specs.Due.{barrier_due, barriers_due, with_barriers}
-use Rattle.law_history.proofs.Members.{among_filter}
-use Rattle.law_history.proofs.Fairly.{IsRequested, IsFair, AreFair, along_joined, unended_parts, judged_all-append}
+use Rattle.list_lemmas.proofs.Members.{among_filter}
+use Rattle.law_lemmas.proofs.Judged.{judged_all-append}
+use Rattle.law_history.proofs.Fairly.{IsRequested, IsFair, AreFair, along_joined, unended_parts}
 use Rattle.law_history.proofs.Joined.{Ascends, AreGood, ascends_later, good_filter, good_left, among_left_of}
 
 module _ (shape : Shape) (events : List Event) (all : List Taken) (m : ℕ) (judge : Judge) where

@@ -4,7 +4,7 @@ use Rattle.std.proofs.lemmas.Bool.{cond_both}
 use Rattle.std.proofs.lemmas.List.{take_all}
 use Rattle.std.proofs.lemmas.Nat.{pow_pos}
 use Rattle.std.proofs.lemmas.Option.{slice_get-get_or, get_or_from_slice_get}
-use native.Mathlib.Nat.{mod-lt, div-add-mod', div-lt_iff_lt-mul}
+use native.Mathlib.Nat.{mod-lt, div-add-mod'}
 use Rattle.salus_types.specs.Volume.{Shape, regions, region_blocks, blocks}
 use Rattle.merkle_region.specs.Tree.{tree_strings, path_strings, verified, IsAmong, NoTwoCollide}
 use Rattle.merkle_region.proofs.Membership.{among_either, none-within}
@@ -15,8 +15,8 @@ use Rattle.volume_model.specs.Contents.{region_of, place_of, blocks_in, fold_bat
 use Rattle.volume_model.specs.Parts.{contents_after}
 use Rattle.salus_model.specs.Judge.{Judge, array, last_number}
 use Rattle.salus_model.specs.Answering.{Verdict, Stale, Good, present_number, present_root, verdict_present, verdict_at, verdict_of}
-use Rattle.law_history.proofs.Regional.{length-blocks_in, blocks_in-at}
-use Rattle.law_history.proofs.Numbered.{IsSized, length-fold_batches}
+use Rattle.law_lemmas.proofs.Regional.{length-blocks_in, blocks_in-at, in_region}
+use Rattle.law_lemmas.proofs.Numbered.{IsSized, length-fold_batches}
 use Rattle.law_history.proofs.Chosen.{HasContents}
 
 -- ---- a good verdict
@@ -47,9 +47,6 @@ module _ (shape : Shape) (judge : Judge) (sized : IsSized shape judge.now) where
   array-all = let all : take (length judge.now.list) judge.now.list ≡ judge.now.list = take_all (length judge.now.list) judge.now.list (omega arith) in
       ap (λ l. fold_batches judge.now.origin l) all
 
-  pub region_inside : (b : ℕ) → b < blocks shape → region_of shape b < regions shape
-  region_inside b inside = (div-lt_iff_lt-mul {k = region_blocks shape} {x = b} {y = regions shape} (pow_pos shape.height)).1 inside
-
   block_there : (b : ℕ) (bytes : List ℕ) → b < blocks shape → slice_get (blocks_in shape (array judge) (region_of shape b)) (place_of shape b) ≡ Some bytes
       → slice_get (array judge) b ≡ Some bytes
   block_there b bytes inside found =
@@ -68,7 +65,7 @@ module _ (shape : Shape) (judge : Judge) (sized : IsSized shape judge.now) where
   unfolding present_root
   good_block strings none contents a inside seen good =
       let g : ℕ = region_of shape a.block in
-      let region : g < regions shape = region_inside a.block inside in
+      let region : g < regions shape = in_region shape a.block inside in
       let tree = blocks_in shape (array judge) g in
       let verifies = (verified-Decides (present_root shape judge g) shape.height (place_of shape a.block) a.bytes a.path).0
       (good_at shape (present_root shape judge g) (present_number shape judge g) a good) in

@@ -1,7 +1,7 @@
 -- The blocks at the end of a chain are those of the session's contents after the batch that it goes up to.
-use Rattle.std.proofs.Common.{◌≡◌, ℕ, zero, suc, ◌+◌, ◌-◌, ◌<◌, ◌≤◌, ◌∙◌, Bool, true, false, ◌==◌, ◌&&◌, nat_lt, List, length, map, bytes_eq, inl, inr, refl, ap, sym, subst, arith}
+use Rattle.std.proofs.Common.{◌≡◌, ℕ, zero, suc, ◌+◌, ◌-◌, ◌<◌, ◌≤◌, ◌∙◌, true, ◌==◌, nat_lt, List, length, map, bytes_eq, inl, inr, ap, sym, subst, arith}
 use Rattle.std.specs.Prelude.{flat_map, filter}
-use Rattle.std.proofs.lemmas.Bool.{eqb-true, false≢true}
+use Rattle.std.proofs.lemmas.Bool.{eqb-true}
 use Rattle.salus_types.specs.Volume.{Shape, regions, region_blocks}
 use Rattle.salus_types.specs.declared.records.Record.{Record}
 use Rattle.salus_types.specs.declared.records.Base.{Base}
@@ -12,18 +12,12 @@ use Rattle.volume_model.specs.Parts.{Session, contents_after, batch_at, writes_i
 use Rattle.volume_model.specs.Recovering.{End, base_end, is_link, linked, chain_ends}
 use Rattle.holding_model.specs.Fitting.{blocks_after, blocks_written, has_content}
 use Rattle.salus_model.specs.Forgery.{IsPartOf}
-use Rattle.law_history.proofs.Members.{among_filter, among_map, among_flat_map}
-use Rattle.law_history.proofs.SameRoots.{same_roots}
-use Rattle.law_history.proofs.Regional.{part_written, length-blocks_in}
-use Rattle.law_history.proofs.Numbered.{IsSized, IsNumbered, numbered, contents_after-more, length-contents_after}
-use Rattle.law_history.proofs.Owned.{IsOwn, told, own_part}
-
-pub and_four : (a b c d : Bool) → (a && b && c && d) ≡ true → (a ≡ true) × (b ≡ true) × (c ≡ true) × (d ≡ true)
-and_four true true true true e = (refl, refl, refl, refl)
-and_four true true true false e = absurd (false≢true e)
-and_four true true false d e = absurd (false≢true e)
-and_four true false c d e = absurd (false≢true e)
-and_four false b c d e = absurd (false≢true e)
+use Rattle.list_lemmas.proofs.Members.{among_filter, among_map, among_flat_map}
+use Rattle.list_lemmas.proofs.SameRoots.{same_roots}
+use Rattle.list_lemmas.proofs.Tests.{and_four}
+use Rattle.law_lemmas.proofs.Regional.{part_written, length-blocks_in}
+use Rattle.law_lemmas.proofs.Numbered.{IsSized, IsNumbered, numbered, contents_after-more, length-contents_after}
+use Rattle.law_lemmas.proofs.Owned.{IsOwn, told, own_part}
 
 -- the blocks of the session's contents after that batch
 pub record IsRightEnd (shape : Shape) (known : Session) (g : ℕ) (end : End) : Type 0 where

@@ -1,7 +1,6 @@
 -- What is recovered from tagged records: the choice is a header of a session that is known, and its blocks are the contents then.
-use Rattle.std.proofs.Common.{flat_map, ◌≡◌, ◌⊎◌, ℕ, zero, suc, ◌+◌, ◌<◌, ◌≤◌, ◌∙◌, Bool, true, false, ◌==◌, ◌&&◌, List, [], ◌∷◌, length, map, cond, Option, None, Some, is_some, inl, inr, refl, ap, sym, subst, arith}
+use Rattle.std.proofs.Common.{◌≡◌, ◌⊎◌, ℕ, ◌<◌, ◌≤◌, ◌∙◌, Bool, true, false, ◌==◌, ◌&&◌, List, [], ◌∷◌, length, map, cond, Option, None, Some, is_some, inl, inr, refl, ap, sym, subst, arith}
 use Rattle.std.specs.Prelude.{filter, fold, slice_index}
-use Rattle.std.specs.List.{range_with_len}
 use Rattle.std.proofs.lemmas.Bool.{and_parts, eqb-true, false≢true}
 use Rattle.std.proofs.lemmas.Option.{none-some, same_Some}
 use Rattle.salus_types.specs.Volume.{Shape, regions, region_blocks}
@@ -14,9 +13,10 @@ use Rattle.volume_model.specs.Parts.{Session, contents_after, number_of}
 use Rattle.salus_model.specs.Judge.{Judge, known_at}
 use Rattle.volume_model.specs.Recovering.{Pool, End, is_of, ends_of, blocks_up_to, picks, choices_of, has_top, recovered, is_recoverable, is_above, better_of, choice_of}
 use Rattle.salus_model.specs.Forgery.{IsTagged}
-use Rattle.law_history.proofs.Members.{among_filter, among_map, among_flat_map, find_among}
-use Rattle.law_history.proofs.Numbered.{IsSized, numbered}
-use Rattle.law_history.proofs.Owned.{IsTold, told, own_of, known-session}
+use Rattle.list_lemmas.proofs.Members.{among_filter, among_map, among_flat_map, find_among, among_range}
+use Rattle.law_lemmas.proofs.Settled.{EachKnown}
+use Rattle.law_lemmas.proofs.Numbered.{IsSized, numbered}
+use Rattle.law_lemmas.proofs.Owned.{IsTold, told, own_of, known-session}
 use Rattle.law_history.proofs.Chained.{IsRightEnd, right_ends}
 
 -- ---- picks
@@ -33,11 +33,6 @@ picks_same F G (g ∷ gs) pick same m =
     tail.2
     ∙ (ap (λ x. x ∷ tail.0) (same g (inl refl) from.0 from.1)
     ∙ ap (λ rest. G g ∷ rest) (picks_same F G gs tail.0 (λ i n x p. same i (inr n) x p) tail.1))
-
-pub among_range : (n a g : ℕ) → IsAmong g (range_with_len a n) → (a ≤ g) × (g < a + n)
-among_range zero a g m = absurd m
-among_range (suc n) a g (inl e) = (omega arith, omega arith)
-among_range (suc n) a g (inr m) = let rest = among_range n (a + 1) g m in (omega arith, omega arith)
 
 -- ---- the choice
 
@@ -96,9 +91,6 @@ abbrev pub HasContents : Shape → List (List ℕ) → Session → Type 0
 HasContents shape strings known =
     (s g : ℕ) (x : List ℕ) → s ≤ length known.list → g < regions shape
     → IsAmong x (tree_strings shape.height (blocks_in shape (contents_after known s) g)) → IsAmong x strings
-
-abbrev pub EachKnown : Judge → (Session → Type 0) → Type 0
-EachKnown judge P = (known : Session) (e : ℕ) → known_at judge e ≡ Some known → P known
 
 module _ (shape : Shape) (key : List ℕ) (judge : Judge) (strings : List (List ℕ)) (none : NoTwoCollide strings)
     (sized : EachKnown judge (IsSized shape)) (contents : EachKnown judge (HasContents shape strings))

@@ -9,11 +9,11 @@ use Rattle.salus_model.specs.Following.{Posted, Follows}
 use Rattle.salus_model.specs.Due.{history_from, lines_due}
 use Rattle.salus_model.specs.Forgery.{NoForgery}
 use Rattle.salus_model.specs.Seen.{strings_of}
+use Rattle.law_lemmas.proofs.WellSent.{well_sent}
 use Rattle.law_history.proofs.Steps.{NoStepCollides}
 use Rattle.law_history.specs.Keeping.{KeepsChoiceFrom}
 use Rattle.law_history.specs.Choosing.{ChoosesRightFrom}
 use Rattle.law_history.specs.Handing.{NodesShowHanded, ClientPostsTagged}
-use Rattle.law_history.proofs.WellSent.{well_sent}
 use Rattle.law_history.proofs.Supplied.{supplied_from, told_nothing}
 use Rattle.law_history.proofs.Continued.{supplied}
 

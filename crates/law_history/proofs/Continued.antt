@@ -14,13 +14,13 @@ use Rattle.salus_model.specs.Hearing.{Past, since, phase_of}
 use Rattle.salus_model.specs.Waiting.{all_taken}
 use Rattle.salus_model.specs.Due.{skip_line, lines_from, lines_due, history_from}
 use Rattle.salus_model.specs.Seen.{strings_of}
+use Rattle.law_lemmas.proofs.Settled.{start_settled}
 use Rattle.law_history.proofs.Steps.{NoStepCollides}
 use Rattle.law_history.specs.Showing.{HeldWasTagged}
 use Rattle.law_history.specs.Keeping.{KeepsChoiceFrom}
 use Rattle.law_history.specs.Choosing.{ChoosesRightFrom, ChoseRight}
 use Rattle.law_history.proofs.Fairly.{along_joined}
 use Rattle.law_history.proofs.Joined.{good_none}
-use Rattle.law_history.proofs.Starting.{start_settled}
 use Rattle.law_history.proofs.Standing.{IsStanding, grows_still}
 use Rattle.law_history.proofs.Events.{done_steps, at_event, from_event}
 use Rattle.law_history.proofs.Placed.{StandsFrom, stands_first, stands_here, stands_rest}

@@ -1,14 +1,10 @@
 -- The steps of an event: one that hands a request to the client, or steps that ask for nothing.
-use Rattle.std.proofs.Common.{◌≡◌, ◌⊎◌, ℕ, ◌+◌, ◌-◌, ◌≤◌, ◌∙◌, Bool, true, false, if◌then◌else◌, List, [], ◌∷◌, ◌++◌, reverse, Option, None, Some, Result, Ok, Err, inl, inr, refl, ap, sym, subst, arith, append_assoc}
+use Rattle.std.proofs.Common.{◌≡◌, ◌⊎◌, ℕ, ◌+◌, ◌-◌, ◌≤◌, ◌∙◌, Bool, true, false, if◌then◌else◌, List, [], ◌∷◌, ◌++◌, reverse, inl, inr, refl, ap, sym, subst, arith, append_assoc}
 use Rattle.std.proofs.lemmas.List.{reverse-append}
-use Rattle.salus_types.specs.declared.names.NodeName.{NodeName}
 use Rattle.salus_types.specs.declared.names.Sender.{Sender}
 use Rattle.salus_types.specs.declared.names.Sender.TheVariants as sender
 use Rattle.merkle_region.specs.Tree.{IsAmong}
 use Rattle.merkle_region.proofs.Membership.{among_either}
-use Rattle.salus_message.specs.declared.wire.Message.{Message}
-use Rattle.salus_message.specs.declared.wire.MessageError.{MessageError}
-use Rattle.salus_message.specs.Reading.{message_at}
 use Rattle.schedule_text.specs.declared.schedule.Event.{Event}
 use Rattle.schedule_text.specs.declared.schedule.Event.TheVariants as event
 use Rattle.salus_model.specs.declared.trace.Request.{Request}
@@ -18,9 +14,9 @@ use Rattle.salus_model.specs.declared.trace.Handed.TheVariants as handed
 use Rattle.salus_model.specs.declared.trace.TraceStep.{TraceStep}
 use Rattle.salus_model.specs.Following.{Posted, posted_at, sent_by, is_skipped, IsStep, IsOneStep, IsSettling, AreStepsOf, IsEventDone, dropped_after, FollowsFrom}
 use Rattle.volume_model.specs.Groups.{is_client}
-use Rattle.salus_model.specs.Hearing.{News, Asks, Silence, news_of_message, news_from, news_of_post, news_in, news_of}
+use Rattle.salus_model.specs.Hearing.{Asks, Silence, news_in, news_of}
+use Rattle.law_lemmas.proofs.Quiet.{IsQuiet, quiet_from, quiet_post, quiet_if}
 use Rattle.law_history.proofs.Asked.{asked_event}
-use Rattle.law_history.proofs.Standing.{IsQuiet}
 
 module _ (posts : List Posted) where
   -- steps of event n that ask for nothing
@@ -35,24 +31,6 @@ module _ (posts : List Posted) where
     pub only : steps ≡ step ∷ []
     pub number : step.event ≡ n
     pub news : news_of posts step ≡ Asks r
-
-  -- ---- what is quiet
-
-  quiet_message : (name : NodeName) (r : Result Message MessageError) → IsQuiet (news_of_message name r)
-  quiet_message name (Ok m) = tt
-  quiet_message name (Err e) = tt
-
-  quiet_from : (from : Sender) (bytes : List ℕ) → IsQuiet (news_from from bytes)
-  quiet_from sender.Client bytes = tt
-  quiet_from (sender.Node name) bytes = quiet_message name (message_at bytes)
-
-  quiet_post : (o : Option Posted) → IsQuiet (news_of_post o)
-  quiet_post None = tt
-  quiet_post (Some m) = quiet_from m.from m.bytes
-
-  quiet_if : (t : Bool) (news : News) → IsQuiet news → IsQuiet (if t then news else Silence)
-  quiet_if true news quiet = quiet
-  quiet_if false news quiet = tt
 
   plain_step : (earlier : List TraceStep) (n : ℕ) (party : Sender) (what : Handed) (t : TraceStep) → IsQuiet (news_in posts what) → IsStep posts earlier n party what t
       → (t.event ≡ n) × IsQuiet (news_of posts t)

@@ -1,5 +1,5 @@
 -- Lines that open, stage and lose nothing: what makes each of them legal, and what they keep.
-use Rattle.std.proofs.Common.{◌≤◌, arith, ◌≡◌, ◌⊎◌, ℕ, ◌<◌, ◌∙◌, Bool, true, false, ◌||◌, ◌==◌, List, [], ◌∷◌, ◌++◌, Some, inl, inr, refl, ap, sym, subst, append-nil, append_assoc, length, length-append, ◌≤◌, arith}
+use Rattle.std.proofs.Common.{◌≤◌, arith, ◌≡◌, ◌⊎◌, ℕ, ◌<◌, ◌∙◌, Bool, true, false, ◌||◌, ◌==◌, List, [], ◌∷◌, ◌++◌, Some, inl, inr, refl, ap, sym, subst, length, length-append, ◌≤◌, arith}
 use Rattle.std.specs.Prelude.{fold}
 use Rattle.std.specs.List.{list_any, AllByRecursion}
 use Rattle.std.proofs.lemmas.Bool.{or_parts, or_cases, or_from, eqb-true, false≢true, eq-eqb}
@@ -11,11 +11,10 @@ use Rattle.printed_lines.specs.declared.line.Line.{Line}
 use Rattle.printed_lines.specs.declared.line.Line.TheVariants as line
 use Rattle.salus_model.specs.declared.trace.Request.{Request}
 use Rattle.salus_model.specs.declared.trace.Request.TheVariants as request
-use Rattle.volume_model.specs.Contents.{Batch}
-use Rattle.volume_model.specs.Parts.{Session}
 use Rattle.salus_model.specs.Judge.{Judge, event_at, batch_of, is_among, judged, judged_all, IsNextBatch, IsNextAck, IsTheBlock, IsAnswered, IsLegalLine, IsKeptLine, AlongLines}
 use Rattle.salus_model.specs.Hearing.{Phase, phase_by_line, is_open_line, is_stage_line}
 use Rattle.salus_model.specs.Waiting.{Taken, is_write, has_ended}
+use Rattle.law_lemmas.proofs.Growing.{IsGoing, going_still, going_on}
 
 -- ---- requests
 
@@ -58,41 +57,6 @@ pub along_joined : (P : Judge → Line → Type 0) (events : List Event) (judge 
 unfolding AlongLines judged_all
 along_joined P events judge [] rest front back = back
 along_joined P events judge (l ∷ lines) rest front back = (front.0, along_joined P events (judged events judge l) lines rest front.1 back)
-
-pub judged_all-append : (events : List Event) (judge : Judge) (lines rest : List Line)
-    → judged_all events judge (lines ++ rest) ≡ judged_all events (judged_all events judge lines) rest
-unfolding judged_all
-judged_all-append events judge [] rest = refl
-judged_all-append events judge (l ∷ lines) rest = judged_all-append events (judged events judge l) lines rest
-
--- ---- sessions
-
--- a session with more batches
-abbrev pub extended : Session → List Batch → Session
-extended known more = record known { list = known.list ++ more }
-
--- the session goes on, and the others are as they were
-pub record IsGoing (before after : Judge) : Type 0 where
-  pub more : List Batch
-  pub now : after.now ≡ extended before.now more
-  pub others : after.others ≡ before.others
-  pub staged : after.staged ≡ before.staged
-  pub opened : after.opened ≡ before.opened
-
-going_still : (before after : Judge) → after.now ≡ before.now → after.others ≡ before.others → after.staged ≡ before.staged → after.opened ≡ before.opened → IsGoing before after
-going_still before after now others staged opened =
-    record { more = []; now = now ∙ ap (λ l. record before.now { list = l }) (sym (append-nil before.now.list)); others = others; staged = staged; opened = opened }
-
-going_on : (a b c : Judge) → IsGoing a b → IsGoing b c → IsGoing a c
-going_on a b c first second = record {
-  more = first.more ++ second.more;
-  now = second.now
-      ∙ (ap (λ k. extended k second.more) first.now
-      ∙ ap (λ l. record a.now { list = l }) (append_assoc a.now.list first.more second.more));
-  others = second.others ∙ first.others;
-  staged = second.staged ∙ first.staged;
-  opened = second.opened ∙ first.opened;
-}
 
 -- ---- what stays so
 

@@ -20,9 +20,9 @@ use Rattle.volume_model.specs.Recovering.{record_counts, base_counts}
 use Rattle.salus_model.specs.Opening.{Reply, has_replied, reply_in, with_reply, replies_to, headers_in, pool_of}
 use Rattle.salus_model.specs.Seen.{blocks_strings}
 use Rattle.salus_model.specs.Forgery.{IsTagged, IsUnforged}
+use Rattle.list_lemmas.proofs.Members.{among_filter, among_map, among_map-in, among_flat_map, among_flat_map-in}
 use Rattle.law_history.specs.Showing.{records_shown}
 use Rattle.salus_model.specs.Seen.{news_strings}
-use Rattle.law_history.proofs.Members.{among_filter, among_map, among_map-in, among_flat_map, among_flat_map-in}
 use Rattle.law_history.proofs.Chosen.{IsSeenBase, IsTaggedHeader, IsTaggedPool}
 
 pub among_since : (test : Past → Bool) (history : List Past) (p : Past) → IsAmong p (since test history) → IsAmong p history
@@ -94,7 +94,7 @@ module _ (volume : Volume) (judge : Judge) (strings : List (List ℕ)) where
       let genuine = and_parts _ _ (and_parts _ _ front.0).0 in
       let fits : has_shape shape base.blocks ≡ true = front.1 in
       record {
-        tagged = heard.tagged base.rec (among_left base.rec (map (λ b. b.rec) told.held.bases) told.held.parts (among_map-in (λ (b : Base). b.rec) base told.held.bases among)) genuine.0;
+        tagged = heard.tagged base.rec (among_left base.rec (map (λ b. b.rec) told.held.bases) told.held.parts (among_map-in (λ (b : Base). b.rec) told.held.bases base among)) genuine.0;
         long = eqb-true (length base.blocks) (region_blocks shape) (and_parts (length base.blocks == region_blocks shape) _ fits).0;
         root = (bytes_eq-Decides (root_of shape.height base.blocks) base.rec.header.root).0 parts.1;
         seen = λ x m. heard.seen x

@@ -6,7 +6,7 @@ use Rattle.merkle_region.specs.Tree.{IsAmong}
 use Rattle.merkle_region.proofs.Membership.{among_either}
 use Rattle.schedule_text.specs.declared.schedule.Event.{Event}
 use Rattle.salus_model.specs.Waiting.{Taken, is_write, left_of}
-use Rattle.law_history.proofs.Members.{among_filter}
+use Rattle.list_lemmas.proofs.Members.{among_filter}
 use Rattle.law_history.proofs.Fairly.{IsRequested}
 
 -- each was asked later than those before it

@@ -1,9 +1,3 @@
-pub mod Members
-pub mod SameRoots
-pub mod Written
-pub mod Regional
-pub mod Numbered
-pub mod Owned
 pub mod Chained
 pub mod Chosen
 pub mod Fairly
@@ -14,10 +8,9 @@ pub mod Questioned
 pub mod Carrying
 pub mod Answered
 pub mod Asked
-pub mod Growing
 pub mod Seeing
 pub mod Heard
-pub mod Settled
+pub mod Phases
 pub mod Rows
 pub mod Standing
 pub mod Stepped
@@ -28,8 +21,6 @@ pub mod Runs
 pub mod Split
 pub mod Continued
 pub mod Steps
-pub mod WellSent
-pub mod Starting
 pub mod Supplied
 pub mod Concluded
 pub mod Rejoined

@@ -20,15 +20,16 @@ use Rattle.volume_model.specs.Recovering.{choice_of}
 use Rattle.salus_model.specs.Opening.{replies_to, all_replied, pool_of, all_switched, is_fetched}
 use Rattle.salus_model.specs.Due.{due_choice, due_replies, due_serving, due_gathering, due_fetching, due_staged, due_message}
 use Rattle.std.specs.Prelude.{IsSomeAnd}
+use Rattle.list_lemmas.proofs.Members.{among_map}
+use Rattle.law_lemmas.proofs.Settled.{EachKnown, IsSettled, now-known, not_known}
 use Rattle.law_history.specs.Keeping.{IsChoiceKept}
-use Rattle.law_history.proofs.Members.{among_map}
-use Rattle.law_history.proofs.Chosen.{HasContents, EachKnown, IsRightChoice, choice_right}
+use Rattle.law_history.proofs.Chosen.{HasContents, IsRightChoice, choice_right}
 use Rattle.law_history.proofs.Fairly.{AreFair, IsKept}
 use Rattle.law_history.proofs.Joined.{AreGood, good_filter}
 use Rattle.law_history.proofs.Acked.{acks-fair}
 use Rattle.law_history.proofs.Answered.{answer-fair}
 use Rattle.law_history.proofs.Heard.{IsHeard, pool_tagged, among_since}
-use Rattle.law_history.proofs.Settled.{IsOpening, IsToOpen, PhaseFits, IsSettled, now-known, not_known}
+use Rattle.law_history.proofs.Phases.{IsOpening, IsToOpen, PhaseFits}
 
 pub record IsStageRow (K : Type 0) (events : List Event) (judge : Judge) (top : ℕ) (lines : List Line) : Type 0 where
   pub e : ℕ

@@ -13,19 +13,22 @@ use Rattle.salus_model.specs.Following.{Posted}
 use Rattle.salus_model.specs.Hearing.{Past, news_of, judge_of, phase_of}
 use Rattle.salus_model.specs.Due.{past_of, pasts_from, history_from}
 use Rattle.salus_model.specs.Seen.{strings_of}
+use Rattle.list_lemmas.proofs.Members.{among_all}
+use Rattle.law_lemmas.proofs.Settled.{settled-wider}
+use Rattle.law_lemmas.proofs.Quiet.{IsQuiet}
+use Rattle.law_lemmas.proofs.Judged.{judged_all-append}
 use Rattle.law_history.specs.Keeping.{KeepsChoiceFrom}
 use Rattle.law_history.specs.Choosing.{ChoosesRightFrom}
 use Rattle.salus_model.specs.Forgery.{IsUnforged}
 use Rattle.law_history.specs.Showing.{records_shown}
-use Rattle.law_history.proofs.Members.{each_among}
-use Rattle.law_history.proofs.Fairly.{along_joined, judged_all-append}
+use Rattle.law_history.proofs.Fairly.{along_joined}
 use Rattle.law_history.proofs.Joined.{good_wider}
-use Rattle.law_history.proofs.Settled.{settled-wider, phase-wider}
-use Rattle.law_history.proofs.Standing.{IsQuiet, IsReached, IsStanding}
+use Rattle.law_history.proofs.Standing.{IsReached, IsStanding}
 use Rattle.law_history.proofs.Stepped.{IsRising}
 use Rattle.law_history.proofs.Shown.{ShowsTagged, seen_later, quiet_step, asked_step, choice_now}
 use Rattle.law_history.proofs.Events.{ArePlain, IsAskedStep}
 use Rattle.law_history.proofs.Placed.{rises_any, rises_asked}
+use Rattle.law_history.proofs.Phases.{phase-wider}
 
 module _ (volume : Volume) (events : List Event) (strings : List (List ℕ)) (none : NoTwoCollide strings) (posts : List Posted) where
   abbrev pub pasts : List Past → List TraceStep → List Past
@@ -56,7 +59,7 @@ module _ (volume : Volume) (events : List Event) (strings : List (List ℕ)) (no
   tagged_always [] history each = tt
   tagged_always (t ∷ steps) history each =
       let p : Past = past_of volume events posts history t in
-      ((λ reached rec among. each_among (λ r. IsUnforged volume p.before r) rec (records_shown p.news) each.0 among), tagged_always steps (p ∷ history) each.1)
+      ((λ reached rec among. among_all (λ r. IsUnforged volume p.before r) (records_shown p.news) rec among each.0), tagged_always steps (p ∷ history) each.1)
 
   pub tagged_here : (here rest : List TraceStep) (history : List Past) → AllTagged history (here ++ rest) → AllTagged history here
   tagged_here [] rest history each = tt

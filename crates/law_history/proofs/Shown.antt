@@ -15,17 +15,20 @@ use Rattle.salus_model.specs.Due.{due_request, due_news, past_of, history_from}
 use Rattle.salus_model.specs.Seen.{known_strings}
 use Rattle.salus_model.specs.Seen.{news_strings, strings_at, strings_of}
 use Rattle.salus_model.specs.Forgery.{IsUnforged}
+use Rattle.law_lemmas.proofs.Settled.{EachKnown}
+use Rattle.law_lemmas.proofs.Owned.{known_among}
+use Rattle.law_lemmas.proofs.Quiet.{IsQuiet}
+use Rattle.law_lemmas.proofs.Numbered.{length-contents_after}
 use Rattle.law_history.specs.Showing.{records_shown}
-use Rattle.law_history.proofs.Chosen.{HasContents, EachKnown}
-use Rattle.law_history.proofs.Seeing.{known_among, has_contents}
+use Rattle.law_history.proofs.Chosen.{HasContents}
+use Rattle.law_history.proofs.Seeing.{has_contents}
 use Rattle.law_history.proofs.Heard.{IsHeard}
 use Rattle.law_history.specs.Keeping.{IsChoiceKept, KeepsChoice}
 use Rattle.law_history.specs.Choosing.{ChoosesRight}
 use Rattle.law_history.proofs.Rows.{IsRow, row_message, gathered-choice, all_heard}
-use Rattle.law_history.proofs.Standing.{IsQuiet, IsNoticed, IsStanding, IsStepped}
+use Rattle.law_history.proofs.Standing.{IsNoticed, IsStanding, IsStepped}
 use Rattle.law_history.proofs.Stepped.{IsRising, stepped_row, stepped_asked}
 use Rattle.law_history.proofs.Asked.{asked_event}
-use Rattle.law_history.proofs.Numbered.{length-contents_after}
 
 module _ (volume : Volume) (events : List Event) where
   abbrev Within : List (List ℕ) → List (List ℕ) → Type 0

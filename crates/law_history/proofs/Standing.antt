@@ -9,21 +9,15 @@ use Rattle.schedule_text.specs.declared.schedule.Event.{Event}
 use Rattle.salus_model.specs.Judge.{Judge, start_judge, judged_all, AlongLines, IsLegalLine, IsKeptLine, known_at}
 use Rattle.salus_model.specs.Hearing.{News, Asks, Says, Crashes, Silence, Past, judge_of, since, opens, refuses, phase_of, phase_by_news, phase_by_line}
 use Rattle.salus_model.specs.Waiting.{Taken, joining, taken_in, all_taken}
-use Rattle.law_history.proofs.Fairly.{extended, AreFair, IsKept, fair-kept, fair-going, fair-legal, fair-keeps, fair-phase, fair-opens}
+use Rattle.law_lemmas.proofs.Growing.{extended, Grows, going-grows, tagged-grows, grows_on, extended-nothing}
+use Rattle.law_lemmas.proofs.Numbered.{IsSized}
+use Rattle.law_lemmas.proofs.Settled.{EachKnown, IsSettled, going-settled}
+use Rattle.law_lemmas.proofs.Quiet.{IsQuiet}
+use Rattle.law_history.proofs.Fairly.{AreFair, IsKept, fair-kept, fair-going, fair-legal, fair-keeps, fair-phase, fair-opens}
 use Rattle.law_history.proofs.Joined.{AreGood}
-use Rattle.law_history.proofs.Numbered.{IsSized}
-use Rattle.law_history.proofs.Chosen.{EachKnown}
-use Rattle.law_history.proofs.Growing.{Grows, going-grows, tagged-grows, grows_on, extended-nothing}
 use Rattle.law_history.specs.Choosing.{ChoosesRightThen, ChoseRight}
 use Rattle.law_history.proofs.Heard.{IsHeard}
-use Rattle.law_history.proofs.Settled.{PhaseFits, IsSettled, going-settled, going-phase}
-
--- news that is no request
-abbrev pub IsQuiet : News → Type 0
-IsQuiet (Asks r) = ⊥
-IsQuiet (Says name x) = Unit {0}
-IsQuiet Crashes = Unit {0}
-IsQuiet Silence = Unit {0}
+use Rattle.law_history.proofs.Phases.{PhaseFits, going-phase}
 
 pub heard-grows : (volume : Volume) (before after : Judge) (strings : List (List ℕ)) (news : News) (top : ℕ) → IsSettled volume.geometry before top → Grows before after
     → IsHeard volume before strings news → IsHeard volume after strings news

@@ -14,13 +14,15 @@ use Rattle.salus_model.specs.Judge.{Judge, event_at, is_among, judged_all, Along
 use Rattle.salus_model.specs.Hearing.{Asks, Past, since, opens, refuses, Phase, phase_of, phase_by_news, phase_by_request, phase_by_line, is_open_line, is_refused_line}
 use Rattle.salus_model.specs.Waiting.{Taken, joins, joining, taken_in, all_taken, unended, live, refusal_of}
 use Rattle.salus_model.specs.Due.{due_request}
+use Rattle.law_lemmas.proofs.Settled.{IsSettled, not_opened, stage-grows, stage-settled, staged_after, opened_after, open-grows, open-settled, open-latest, open-answered, open-acked, settled-wider, below-wider}
+use Rattle.law_lemmas.proofs.Quiet.{IsQuiet}
 use Rattle.law_history.proofs.Fairly.{IsRequested, AreFair, IsKept, fair-opens}
 use Rattle.law_history.proofs.Joined.{AreGood, good_none, good_push, good_wider}
 use Rattle.law_history.proofs.Asked.{asked_event, requested, request-fair}
 use Rattle.law_history.proofs.Heard.{IsHeard}
-use Rattle.law_history.proofs.Settled.{PhaseFits, IsSettled, not_opened, stage-grows, stage-settled, staged_after, opened_after, open-grows, open-settled, open-latest, open-answered, open-acked, phase-wider, settled-wider, below-wider}
 use Rattle.law_history.proofs.Rows.{IsStageRow, IsOpenRow, IsLostRow, IsRow}
-use Rattle.law_history.proofs.Standing.{IsQuiet, IsNoticed, IsStanding, IsStepped, stepped_quiet, stepped_fair, taken_more, taken_none, taken_quiet, phase_more, heard_more, reached_more, grows_still}
+use Rattle.law_history.proofs.Standing.{IsNoticed, IsStanding, IsStepped, stepped_quiet, stepped_fair, taken_more, taken_none, taken_quiet, phase_more, heard_more, reached_more, grows_still}
+use Rattle.law_history.proofs.Phases.{PhaseFits, phase-wider}
 
 module _ (volume : Volume) (events : List Event) (strings : List (List ℕ)) where
   abbrev shape : Shape

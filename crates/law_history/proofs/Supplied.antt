@@ -22,17 +22,16 @@ use Rattle.volume_model.specs.Groups.{is_client}
 use Rattle.salus_model.specs.Hearing.{News, Silence, Past, news_of_message, news_from, news_of_post, news_in}
 use Rattle.salus_model.specs.Due.{past_of, pasts_from}
 use Rattle.salus_model.specs.Forgery.{IsUnforged, records_of, records_told}
+use Rattle.list_lemmas.proofs.Members.{among_all}
+use Rattle.law_lemmas.proofs.Growing.{tagged-grows}
+use Rattle.law_lemmas.proofs.Settled.{now-known, start_settled}
+use Rattle.law_lemmas.proofs.WellSent.{IsWellSent, AreWellSent}
 use Rattle.law_history.specs.Showing.{records_shown}
 use Rattle.law_history.specs.Choosing.{ChoseRight}
 use Rattle.law_history.specs.Handing.{records_posted, records_handed, IsFormatted, ShowsHanded, NodesShowHanded, steps_in, PostsTagged, ClientPostsTagged}
-use Rattle.law_history.proofs.Members.{each_among}
-use Rattle.law_history.proofs.Growing.{tagged-grows}
 use Rattle.law_history.proofs.Standing.{IsReached}
 use Rattle.law_history.proofs.Shown.{ShowsTagged}
 use Rattle.law_history.proofs.Runs.{AllTagged, judge_at}
-use Rattle.law_history.proofs.Settled.{now-known}
-use Rattle.law_history.proofs.Starting.{start_settled}
-use Rattle.law_history.proofs.WellSent.{IsWellSent, AreWellSent}
 
 -- ---- what the client hears of a lie
 
@@ -202,7 +201,7 @@ module _ (volume : Volume) (events : List Event) (strings : List (List ℕ)) (no
   supplied_from [] history told sent shows tags lies = tt
   supplied_from (t ∷ steps) history told sent shows tags lies =
       let p : Past = past_of volume events posts history t in
-      let lie : LiesTagged p = λ rec among. each_among (λ r. IsUnforged volume p.before r) rec (records_told p.step.handed) lies.0 among in (
+      let lie : LiesTagged p = λ rec among. among_all (λ r. IsUnforged volume p.before r) (records_told p.step.handed) rec among lies.0 in (
         shows_step history t told sent.0 lie,
         supplied_from steps (p ∷ history) (record { shows = shows.0; tags = tags.0; lies = lie; sent = sent.0 }, told) sent.1 shows.1 tags.1 lies.1,
       )

@@ -2,6 +2,7 @@
 use Rattle.std.proofs.Common.{◌≡◌, ℕ, zero, suc, ◌+◌, ◌<◌, true, not, cond, ◌&&◌, ◌∙◌, nat_le, if◌then◌else◌, List, [], ◌∷◌, ◌++◌, map, length, drop, refl, ap, ap₂, sym, subst, arith}
 use Rattle.std.specs.Prelude.{filter, flat_map}
 use Rattle.std.specs.List.{list_any, list_all}
+use Rattle.std.proofs.lemmas.List.Folds.{list_all-append}
 use Rattle.salus_types.specs.Volume.{Shape}
 use Rattle.salus_types.specs.declared.names.NodeName.{NodeName}
 use Rattle.schedule_text.specs.declared.schedule.Event.{Event}
@@ -9,7 +10,7 @@ use Rattle.printed_lines.specs.declared.line.Line.{Line}
 use Rattle.printed_lines.specs.declared.line.Line.TheVariants as line
 use Rattle.volume_model.specs.Contents.{Batch}
 use Rattle.volume_model.specs.Parts.{leader_of}
-use Rattle.salus_model.specs.Judge.{Judge, judged, judged_all}
+use Rattle.salus_model.specs.Judge.{Judge, judged_all}
 use Rattle.salus_model.specs.Hearing.{News, Past}
 use Rattle.volume_model.specs.Groups.{group_of}
 use Rattle.salus_model.specs.Waiting.{Taken, left_of, has_ended, unended}
@@ -19,17 +20,14 @@ use Rattle.client_rules.specs.State as state
 use Rattle.client_rules.specs.State.{Unacked}
 use Rattle.client_rules.specs.Tables.{head_questions, claim_of, all_claimed, is_reached}
 use Rattle.client_rules.specs.Serving.{Acked, acked_one, acked_lines, acks}
+use Rattle.list_lemmas.proofs.Tests.{by_test}
+use Rattle.list_lemmas.proofs.Lists.{list_all_same}
+use Rattle.law_lemmas.proofs.Judged.{judged_all-append}
 use Rattle.law_lines.specs.Mirror.{open_of, waiter_at, MirrorsCounts, MirrorsLine, IsInOrder}
-use Rattle.law_lines.proofs.Basics.{by_test, list_all_same, list_all-append2}
 use Rattle.law_lines.proofs.Settled.{without, unended-more, due_events, judged-barriers, ended-answered, stays, settled, settled-left, settled-line, waiters-lines, waiters-kept}
 use Rattle.law_lines.proofs.Moving.{settled_judge, stays-order, stays-reads}
 use Rattle.law_lines.proofs.Histories.{is_work}
 use Rattle.law_lines.proofs.Serving.{barriers-work, ended-settled}
-
-pub judged-append : (events : List Event) (xs ys : List Line) (judge : Judge) → judged_all events judge (xs ++ ys) ≡ judged_all events (judged_all events judge xs) ys
-unfolding judged_all
-judged-append events [] ys judge = refl
-judged-append events (x ∷ xs) ys judge = judged-append events xs ys (judged events judge x)
 
 -- the first of the batches from a on, and those behind it
 pub drop-more : {A : Type 0} (a : ℕ) (x : A) (xs list : List A) → x ∷ xs ≡ drop a list → (a < length list) × (xs ≡ drop (a + 1) list)
@@ -163,11 +161,11 @@ module _ (shape : Shape) (history : List Past) (events : List Event) (news : Lis
       → (judged_all events judge xs).now.session ≡ judge.now.session → Acknowledged (judged_all events judge xs) ys c rest → Acknowledged judge (xs ++ ys) c (lines ++ rest)
   more_acks judge xs ys lines rest c same work session a = record {
     same_lines = ap₂ (λ x y. x ++ y) same a.same_lines;
-    work = list_all-append2 is_work xs ys ∙ ap₂ (λ x y. x && y) work a.work;
-    session_same = ap (λ j. j.now.session) (judged-append events xs ys judge) ∙ a.session_same ∙ session;
+    work = list_all-append is_work xs ys ∙ ap₂ (λ x y. x && y) work a.work;
+    session_same = ap (λ j. j.now.session) (judged_all-append events judge xs ys) ∙ a.session_same ∙ session;
     us = a.us;
     batches = a.batches;
-    at_end = subst (λ j. Acknowledges j c a.us a.batches) (sym (judged-append events xs ys judge)) a.at_end;
+    at_end = subst (λ j. Acknowledges j c a.us a.batches) (sym (judged_all-append events judge xs ys)) a.at_end;
   }
 
   pub acks_law : (us : List Unacked) (batches : List Batch) (judge : Judge) (c : state.Serving) → map (λ x. x.leader) us ≡ map (λ b. leader_of shape b) batches

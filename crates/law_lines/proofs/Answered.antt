@@ -3,6 +3,7 @@ use Rattle.std.proofs.Common.{◌≡◌, ℕ, ◌^◌, ◌<◌, ◌≤◌, Bool,
 use Rattle.std.specs.Prelude.{filter, find}
 use Rattle.std.specs.List.{list_any}
 use Rattle.std.specs.Option.{option_map}
+use Rattle.std.proofs.lemmas.List.Folds.{list_any-append}
 use Rattle.salus_types.specs.Volume.{Shape, regions, blocks}
 use Rattle.salus_types.specs.declared.names.NodeName.{NodeName}
 use Rattle.salus_message.specs.declared.replies.Answer.{Answer}
@@ -22,12 +23,13 @@ use Rattle.salus_model.specs.Waiting.{Taken, is_write, left_of, live, Question, 
 use Rattle.salus_model.specs.Answering.{verdict_of, is_fitting, is_answer, is_known, is_good, verdict_then}
 use Rattle.salus_model.specs.Due.{due_verdict, due_answer_to, due_answer}
 use Rattle.client_rules.specs.State as state
-use Rattle.client_rules.specs.State.{Open, ignored}
+use Rattle.client_rules.specs.State.{ignored}
 use Rattle.client_rules.specs.Tables.{line_of, read_questions, head_questions, open_at}
 use Rattle.client_rules.specs.Serving.{read_answered, head_judged, head_answered, answered_here}
+use Rattle.list_lemmas.proofs.Tests.{by_test}
+use Rattle.law_lemmas.proofs.Regional.{in_region}
 use Rattle.law_lines.specs.Mirror.{Between, open_of}
 use Rattle.law_lines.specs.Mirrors.{Holds, AsDue}
-use Rattle.law_lines.proofs.Basics.{by_test, list_any-append2}
 use Rattle.law_lines.proofs.Ordered.{left-line, head-writes}
 use Rattle.law_lines.proofs.Histories.{past}
 use Rattle.law_lines.proofs.Committed.{ignored_as_due}
@@ -36,7 +38,7 @@ use Rattle.law_lines.proofs.Finding.{find-none, find-back, open-find, between-ta
 use Rattle.law_lines.proofs.Numbering.{reads-low}
 use Rattle.law_lines.proofs.OpenReads.{no-answer}
 use Rattle.law_lines.proofs.ReadRows.{same-worth}
-use Rattle.law_lines.proofs.ReadAnswers.{in_region, find-ours, none_as_due, read_answered_as_due}
+use Rattle.law_lines.proofs.ReadAnswers.{find-ours, none_as_due, read_answered_as_due}
 use Rattle.law_lines.proofs.HeadFound.{FoundHead, found-head, blocks-inside, find-filter, off-hits, any-filter, find-off}
 use Rattle.law_lines.proofs.HeadRows.{known_as_due}
 use Rattle.law_lines.proofs.HeadAnswers.{head_judged_as_due}
@@ -46,7 +48,7 @@ abbrev pub IsWritten : List Event → Taken → Type 0
 IsWritten events w = (batch : Batch) → w.request ≡ request.Write batch → event_at events w.event ≡ Some (event.Write batch)
 
 -- the request of a head
-write_is : (r : Request) → is_write r ≡ true → (batch : Batch) × (r ≡ request.Write batch)
+pub write_is : (r : Request) → is_write r ≡ true → (batch : Batch) × (r ≡ request.Write batch)
 write_is (request.Write batch) is = (batch, refl)
 write_is (request.Read b) is = absurd (cc)
 write_is request.Barrier is = absurd (cc)
@@ -88,7 +90,7 @@ module _ (volume : Volume) (events : List Event) (history : List Past) (judge : 
           subst (λ o. R [] (head_answered volume c name a (option_map (open_of volume.geometry history) o)))
           (sym (find-off (hits a) (filter unk hq) (any-filter (hits a) unk hq none)))
           (none_as_due volume events history judge n m c step name a h ours
-          (list_any-append2 (hits a) (read_questions (left_of (live history judge))) (head_questions volume.geometry (line_of (live history judge)))
+          (list_any-append (hits a) (read_questions (left_of (live history judge))) (head_questions volume.geometry (line_of (live history judge)))
           ∙ ap₂ (λ x y. x || y) rq_off (ap (list_any (hits a)) head_is ∙ none)))
       found_as_due (Some q) is =
           let shape : Shape = volume.geometry in
@@ -129,7 +131,7 @@ module _ (volume : Volume) (events : List Event) (history : List Past) (judge : 
         (subst (λ os. R [] (head_answered volume c name a (open_at a os)))
         (sym (h.mirrors.table.asked ∙ ap (λ qs. map (open_of volume.geometry history) (filter (λ o. not (is_known volume.geometry o history)) qs)) none))
         (none_as_due volume events history judge n m c step name a h ours
-        (list_any-append2 (hits a) (read_questions (left_of (live history judge))) (head_questions volume.geometry (line_of (live history judge)))
+        (list_any-append (hits a) (read_questions (left_of (live history judge))) (head_questions volume.geometry (line_of (live history judge)))
         ∙ ap₂ (λ x y. x || y) rq_off (ap (list_any (hits a)) none))))
     head_as_due (w ∷ behind) line_is =
         let b = write_is w.request (head-writes (live history judge) w behind line_is) in

@@ -16,8 +16,8 @@ use Rattle.salus_model.specs.Waiting.{live, reads_among, range_refusal, full_ref
 use Rattle.salus_model.specs.Due.{due_request}
 use Rattle.client_rules.specs.State as state
 use Rattle.client_rules.specs.Serving.{refusal_here, decided, fetches, requested_here}
+use Rattle.list_lemmas.proofs.Tests.{by_test}
 use Rattle.law_lines.specs.Mirrors.{IsYoung, Holds, AsDue}
-use Rattle.law_lines.proofs.Basics.{by_test}
 use Rattle.law_lines.proofs.Histories.{past, agree-quiet, untouched-agree}
 use Rattle.law_lines.proofs.Counting.{same-refusal}
 use Rattle.law_lines.proofs.Requests.{refused_as_due, joined_as_due}

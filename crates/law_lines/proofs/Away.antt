@@ -1,6 +1,7 @@
 -- A client that doesn't serve: what keeps it as it is, and what ends or begins its phase.
 use Rattle.std.proofs.Common.{◌≡◌, ℕ, ◌<◌, ◌≤◌, Bool, true, false, ◌&&◌, ◌||◌, ◌∙◌, if◌then◌else◌, List, [], ◌∷◌, None, refl, ap, ap₂, sym, arith}
 use Rattle.std.specs.List.{list_any, list_all}
+use Rattle.std.proofs.lemmas.Bool.{and_parts}
 use Rattle.salus_types.specs.Volume.{Shape}
 use Rattle.salus_types.specs.declared.names.NodeName.{NodeName}
 use Rattle.schedule_text.specs.declared.schedule.Volume.{Volume}
@@ -13,15 +14,9 @@ use Rattle.salus_model.specs.Waiting.{Question, same_question, questions, live, 
 use Rattle.salus_model.specs.Answering.{verdict_in}
 use Rattle.salus_model.specs.Opening.{has_replied, reply_in, with_reply, replies_to, pool_of, says_staged, says_switched, all_staged, has_switched}
 use Rattle.client_rules.specs.State as state
-use Rattle.client_rules.specs.State.{ignored, only_lines}
 use Rattle.law_lines.specs.Mirror.{IsBefore}
 use Rattle.law_lines.specs.Mirrors.{MirrorsGathering, MirrorsFetching, MirrorsStaging, MirrorsSwitching, IsYoung}
-use Rattle.law_lines.proofs.Counting.{and-step}
 use Rattle.law_lines.proofs.Histories.{past, AgreeOn, agree-none, untouched-agree}
-
-and_false : (b : Bool) → (b && false) ≡ false
-and_false true = refl
-and_false false = refl
 
 -- ---- what keeps a phase
 
@@ -65,7 +60,7 @@ more-all : (e : ℕ) (x : News) (news : List News) (names : List NodeName) → l
     → list_all (λ name. list_any (λ y. says_staged e name y) (x ∷ news)) names ≡ true
 more-all e x news [] all = refl
 more-all e x news (name ∷ names) all =
-    let s = and-step (list_any (λ y. says_staged e name y) news) _ all in ap₂ (λ a b. a && b) (more-any e name x news s.0) (more-all e x news names s.1)
+    let s = and_parts (list_any (λ y. says_staged e name y) news) _ all in ap₂ (λ a b. a && b) (more-any e name x news s.0) (more-all e x news names s.1)
 
 pub all-staged-more : (shape : Shape) (e : ℕ) (x : News) (news : List News) → all_staged shape e news ≡ true → all_staged shape e (x ∷ news) ≡ true
 unfolding all_staged

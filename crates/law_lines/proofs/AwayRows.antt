@@ -1,5 +1,5 @@
 -- A request to a client that doesn't serve, and a step that tells it nothing.
-use Rattle.std.proofs.Common.{◌≡◌, ℕ, ◌+◌, ◌≤◌, Bool, true, false, ◌&&◌, ◌∙◌, List, [], ◌∷◌, refl, ap, arith}
+use Rattle.std.proofs.Common.{◌≡◌, ℕ, ◌+◌, ◌≤◌, false, ◌∙◌, List, [], ◌∷◌, refl, ap, arith}
 use Rattle.salus_types.specs.declared.names.NodeName.{NodeName}
 use Rattle.schedule_text.specs.declared.schedule.Volume.{Volume}
 use Rattle.schedule_text.specs.declared.schedule.Event.{Event}
@@ -17,14 +17,11 @@ use Rattle.client_rules.specs.State as state
 use Rattle.client_rules.specs.State.{ignored, only_lines}
 use Rattle.client_rules.specs.Opening.{restarted}
 use Rattle.client_rules.specs.Rules.{requested_away, crashed}
+use Rattle.list_lemmas.proofs.Tests.{and_false}
 use Rattle.law_lines.specs.Mirrors.{Mirrors, Holds, AsDue}
 use Rattle.law_lines.proofs.Histories.{past}
 use Rattle.law_lines.proofs.Asked.{OpensIn, opens-up, due-up}
 use Rattle.law_lines.proofs.Away.{IsAway, gathering-kept, fetching-kept, staging-kept, switching-kept, before-away, young-now, restarted-mirrors}
-
-and_false : (b : Bool) → (b && false) ≡ false
-and_false true = refl
-and_false false = refl
 
 -- the client isn't one that serves
 abbrev pub AwayClient : state.Client → Type 0

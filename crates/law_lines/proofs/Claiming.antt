@@ -1,7 +1,8 @@
 -- The table of claims holds what the nodes have claimed.
-use Rattle.std.proofs.Common.{◌≡◌, ℕ, ◌<◌, ◌≤◌, Bool, true, false, not, cond, ◌&&◌, ◌||◌, ◌==◌, ◌∙◌, nat_le, if◌then◌else◌, List, [], ◌∷◌, refl, ap, ap₂, sym, subst, arith, eqb-true, eq-eqb, le-leb, leb-true, leb-false}
+use Rattle.std.proofs.Common.{◌≡◌, ℕ, ◌<◌, ◌≤◌, Bool, true, false, not, cond, ◌&&◌, ◌||◌, ◌==◌, ◌∙◌, nat_le, if◌then◌else◌, List, [], ◌∷◌, refl, ap, ap₂, sym, subst, arith, le-leb, leb-true, leb-false}
 use Rattle.std.specs.Prelude.{filter}
 use Rattle.std.specs.List.{list_any}
+use Rattle.std.proofs.lemmas.Bool.{or_left, or_right}
 use Rattle.salus_types.specs.declared.names.NodeName.{NodeName}
 use Rattle.salus_message.specs.declared.small.Committed.{Committed}
 use Rattle.salus_message.specs.declared.wire.Message.TheVariants as message
@@ -10,18 +11,8 @@ use Rattle.volume_model.specs.Groups.{same_node}
 use Rattle.salus_model.specs.Due.{is_claim}
 use Rattle.client_rules.specs.State.{Claimed}
 use Rattle.client_rules.specs.Tables.{claim_of, with_claim}
-use Rattle.law_lines.proofs.Basics.{by_test}
-use Rattle.law_lines.proofs.Counting.{and-step}
-
-pub one-node : (a b : NodeName) → same_node a b ≡ true → a ≡ b
-one-node a b same =
-    let s = and-step (a.region == b.region) (a.replica == b.replica) same in
-    let regions : a.region ≡ b.region = eqb-true a.region b.region s.0 in
-    let replicas : a.replica ≡ b.replica = eqb-true a.replica b.replica s.1 in
-    λ i. record { region = regions i; replica = replicas i }
-
-pub node-itself : (a : NodeName) → same_node a a ≡ true
-node-itself a = ap₂ (λ x y. x && y) (eq-eqb a.region a.region refl) (eq-eqb a.replica a.replica refl)
+use Rattle.list_lemmas.proofs.Tests.{by_test, and_true, same_test, by_either}
+use Rattle.law_lemmas.proofs.Named.{one-node}
 
 -- a node's entries are taken out: another's claim is as before
 other-step : (t : Bool) (name other : NodeName) (c : Claimed) (kept claims : List Claimed) → same_node name other ≡ false → same_node c.name name ≡ t
@@ -36,34 +27,16 @@ claim-other name other [] apart = refl
 claim-other name other (c ∷ claims) apart =
     other-step (same_node c.name name) name other c (filter (λ x. not (same_node x.name name)) claims) claims apart refl (claim-other name other claims apart)
 
-bool_same : (a b : Bool) → (a ≡ true → b ≡ true) → (b ≡ true → a ≡ true) → a ≡ b
-bool_same true true there back = refl
-bool_same true false there back = sym (there refl)
-bool_same false true there back = back refl
-bool_same false false there back = refl
-
-or-left : (a b : Bool) → a ≡ true → (a || b) ≡ true
-or-left true b h = refl
-or-left false b h = absurd (cc)
-
-or-right : (a b : Bool) → b ≡ true → (a || b) ≡ true
-or-right true b h = refl
-or-right false b h = h
-
-or_case : (a b : Bool) (P : Type 0) → (a || b) ≡ true → (a ≡ true → P) → (b ≡ true → P) → P
-or_case true b P h left right = left refl
-or_case false b P h left right = right h
-
 -- the greater of two claims
 covered : (s front old : ℕ) → front ≤ old → nat_le s old ≡ (nat_le s front || nat_le s old)
 covered s front old less =
-    bool_same (nat_le s old) (nat_le s front || nat_le s old) (or-right (nat_le s front) (nat_le s old))
-    (λ h. or_case (nat_le s front) (nat_le s old) (nat_le s old ≡ true) h (λ l. let b = leb-true s front l in le-leb s old (omega (arith, b, less))) (λ r. r))
+    same_test (nat_le s old) (nat_le s front || nat_le s old) (or_right (nat_le s front) (nat_le s old))
+    (λ h. by_either (nat_le s front) (nat_le s old) (nat_le s old ≡ true) h (λ l. let b = leb-true s front l in le-leb s old (omega (arith, b, less))) (λ r. r))
 
 raised : (s front old : ℕ) → old < front → nat_le s front ≡ (nat_le s front || nat_le s old)
 raised s front old less =
-    bool_same (nat_le s front) (nat_le s front || nat_le s old) (or-left (nat_le s front) (nat_le s old))
-    (λ h. or_case (nat_le s front) (nat_le s old) (nat_le s front ≡ true) h (λ l. l) (λ r. let b = leb-true s old r in le-leb s front (omega (arith, b, less))))
+    same_test (nat_le s front) (nat_le s front || nat_le s old) (or_left (nat_le s front) (nat_le s old))
+    (λ h. by_either (nat_le s front) (nat_le s old) (nat_le s front ≡ true) h (λ l. l) (λ r. let b = leb-true s old r in le-leb s front (omega (arith, b, less))))
 
 -- after a claim
 pub claim-with : (name other : NodeName) (front s : ℕ) (claims : List Claimed)
@@ -81,10 +54,6 @@ claim-with name other front s claims =
     → nat_le s (if u then front else claim_of other (filter (λ c. not (same_node c.name name)) claims)) ≡ ((u && nat_le s front) || nat_le s (claim_of other claims))) (same_node name other)
     (λ _ same. raised s front (claim_of other claims) (subst (λ x. claim_of x claims < front) (one-node name other same) (leb-false front (claim_of name claims) high)))
     (λ _ apart. ap (nat_le s) (claim-other name other claims apart)) refl) refl
-
-and_true : (b : Bool) → (b && true) ≡ b
-and_true true = refl
-and_true false = refl
 
 -- the table with the claim holds what the news with it say
 pub claims-with : (session : ℕ) (name : NodeName) (m : Committed) (claims : List Claimed) (news : List News) → (m.session == session) ≡ true

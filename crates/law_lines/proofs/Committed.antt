@@ -1,5 +1,5 @@
 -- A claim to a serving client gives the lines due.
-use Rattle.std.proofs.Common.{◌≡◌, ℕ, ◌<◌, Bool, true, false, ◌&&◌, ◌==◌, ◌∙◌, nat_le, if◌then◌else◌, List, [], ◌∷◌, drop, refl, ap, sym, subst, arith}
+use Rattle.std.proofs.Common.{◌≡◌, ℕ, ◌<◌, true, false, ◌&&◌, ◌==◌, ◌∙◌, nat_le, if◌then◌else◌, List, [], ◌∷◌, drop, refl, ap, sym, subst, arith}
 use Rattle.std.specs.List.{list_any}
 use Rattle.salus_types.specs.Volume.{Shape}
 use Rattle.salus_types.specs.declared.names.NodeName.{NodeName}
@@ -16,20 +16,16 @@ use Rattle.salus_model.specs.Hearing.{News, Says, Past, news_since, since, opens
 use Rattle.salus_model.specs.Waiting.{Taken, all_taken, live, unended, Question}
 use Rattle.salus_model.specs.Due.{is_claim, acks_due, due_serving}
 use Rattle.client_rules.specs.State as state
-use Rattle.client_rules.specs.State.{Unacked, ignored}
+use Rattle.client_rules.specs.State.{ignored}
 use Rattle.client_rules.specs.Serving.{claimed, acks, acked_told, committed_here}
+use Rattle.list_lemmas.proofs.Tests.{by_test, and_false}
 use Rattle.law_lines.specs.Mirror.{MirrorsCounts, MirrorsLine, MirrorsServing, IsInOrder}
 use Rattle.law_lines.specs.Mirrors.{Holds, AsDue}
-use Rattle.law_lines.proofs.Basics.{by_test}
 use Rattle.law_lines.proofs.Settled.{unended-twice}
 use Rattle.law_lines.proofs.Histories.{past, AreWork, work_lines, live-plain, news-plain, AgreeOn, agree-quiet}
 use Rattle.law_lines.proofs.Keeping.{IsNoClaim, table-same, order-same, before-serving, serving-same}
 use Rattle.law_lines.proofs.Claiming.{claims-with}
 use Rattle.law_lines.proofs.Acking.{Acknowledges, acks_law}
-
-and_false : (b : Bool) → (b && false) ≡ false
-and_false true = refl
-and_false false = refl
 
 module _ (volume : Volume) (events : List Event) (history : List Past) (judge : Judge) (n m : ℕ) (c : state.Serving) (step : TraceStep) (name : NodeName)
     (h : Holds volume history judge n m (state.Serves c)) where

@@ -3,6 +3,7 @@ use Rattle.std.proofs.Common.{◌≡◌, ℕ, ◌+◌, Bool, true, false, cond, 
 use Rattle.std.specs.Prelude.{flat_map, count_by, fold}
 use Rattle.std.specs.List.{list_all}
 use Rattle.std.proofs.lemmas.List.{length-map}
+use Rattle.std.proofs.lemmas.Bool.{or_parts, and_parts}
 use Rattle.salus_types.specs.Volume.{Shape}
 use Rattle.salus_model.specs.declared.trace.Request.{Request}
 use Rattle.salus_model.specs.declared.trace.Request.TheVariants as request
@@ -13,7 +14,7 @@ use Rattle.client_rules.specs.State as state
 use Rattle.client_rules.specs.Tables.{line_of, read_question, read_questions}
 use Rattle.client_rules.specs.Serving.{refusal_here}
 use Rattle.law_lines.specs.Mirror.{open_of, waiter_at, is_inside, MirrorsCounts, MirrorsLine}
-use Rattle.law_lines.proofs.Ordered.{AreFree, free-step, free-left, left-line}
+use Rattle.law_lines.proofs.Ordered.{AreFree, free-left, left-line}
 
 fold-from : (f : Taken → ℕ) (a b : ℕ) (xs : List Taken) → fold (λ x r. x + f r) (a + b) xs ≡ a + fold (λ x r. x + f r) b xs
 fold-from f a b [] = refl
@@ -35,7 +36,7 @@ count-append p (x ∷ xs) ys =
 
 free-none : (rs : List Taken) → AreFree rs → writes_among rs ≡ 0
 free-none [] free = refl
-free-none (r ∷ rs) free = let s = free-step (is_write r.request) _ free in count-cons (λ x. is_write x.request) r rs ∙ ap₂ (λ t n. cond t 1 0 + n) s.0 (free-none rs s.1)
+free-none (r ∷ rs) free = let s = or_parts (is_write r.request) _ free in count-cons (λ x. is_write x.request) r rs ∙ ap₂ (λ t n. cond t 1 0 + n) s.0 (free-none rs s.1)
 
 count-read : (v : ℕ) (what : Request) → length (read_question v what) ≡ cond (is_read what) 1 0
 count-read v (request.Write batch) = refl
@@ -67,16 +68,12 @@ one_kind shape request.Barrier free inside = refl
 one_kind shape (request.Restart e) free inside = absurd (cc)
 one_kind shape (request.Reassign e g) free inside = absurd (cc)
 
-pub and-step : (t u : Bool) → (t && u) ≡ true → (t ≡ true) × (u ≡ true)
-and-step true u h = (refl, h)
-and-step false u h = absurd (cc)
-
 -- what has left are reads and barriers
 pub count-left : (shape : Shape) (rs : List Taken) → AreFree rs → list_all (λ r. is_inside shape r.request) rs ≡ true → reads_among rs + barriers_among rs ≡ length rs
 count-left shape [] free inside = refl
 count-left shape (r ∷ rs) free inside =
-    let s = free-step (is_write r.request) _ free in
-    let t = and-step (is_inside shape r.request) _ inside in
+    let s = or_parts (is_write r.request) _ free in
+    let t = and_parts (is_inside shape r.request) _ inside in
     let one = one_kind shape r.request s.0 t.0 in
     let rest = count-left shape rs s.1 t.1 in
     let reads = count-cons (λ x. is_read x.request) r rs in
@@ -85,7 +82,7 @@ count-left shape (r ∷ rs) free inside =
 
 pub inside-front : (shape : Shape) (xs ys : List Taken) → list_all (λ r. is_inside shape r.request) (xs ++ ys) ≡ true → list_all (λ r. is_inside shape r.request) xs ≡ true
 inside-front shape [] ys inside = refl
-inside-front shape (x ∷ xs) ys inside = let t = and-step (is_inside shape x.request) _ inside in ap₂ (λ a b. a && b) t.0 (inside-front shape xs ys t.1)
+inside-front shape (x ∷ xs) ys inside = let t = and_parts (is_inside shape x.request) _ inside in ap₂ (λ a b. a && b) t.0 (inside-front shape xs ys t.1)
 
 module _ (shape : Shape) (history : List Past) (judge : Judge) (requests : List Taken) (c : state.Serving)
     (counts : MirrorsCounts shape judge c) (table : MirrorsLine shape history judge requests c) (inside : list_all (λ r. is_inside shape r.request) requests ≡ true) where

@@ -3,29 +3,29 @@ use Rattle.std.proofs.Common.{◌≡◌, ℕ, ◌≤◌, Bool, true, false, not,
 use Rattle.std.specs.Prelude.{filter, find}
 use Rattle.std.specs.List.{list_any}
 use Rattle.std.specs.Option.{option_map}
+use Rattle.std.proofs.lemmas.Bool.{and_parts, or_parts}
 use Rattle.salus_message.specs.declared.replies.Answer.{Answer}
 use Rattle.salus_model.specs.declared.trace.Request.{Request}
 use Rattle.salus_model.specs.declared.trace.Request.TheVariants as request
 use Rattle.salus_model.specs.Waiting.{Taken, Question}
 use Rattle.client_rules.specs.State.{Open}
 use Rattle.client_rules.specs.Tables.{open_at, closed_at, read_question, read_questions}
+use Rattle.list_lemmas.proofs.Tests.{by_test, or_false, unequal, unequal_up}
 use Rattle.law_lines.specs.Mirror.{Between}
-use Rattle.law_lines.proofs.Basics.{by_test, or_false, unequal, unequal_up}
 use Rattle.law_lines.proofs.Ordered.{between-ends}
 use Rattle.law_lines.proofs.Settled.{without}
-use Rattle.law_lines.proofs.Counting.{and-step}
-use Rattle.law_lines.proofs.Hitting.{hits, or-step}
+use Rattle.law_lines.proofs.Hitting.{hits}
 
 -- ---- finding in lists
 
 pub find-front : {X : Type 0} (p : X → Bool) (xs ys : List X) → list_any p ys ≡ false → find p (xs ++ ys) ≡ find p xs
 find-front p [] [] none = refl
-find-front p [] (y ∷ ys) none = let s = or-step (p y) _ none in rw s.0 (find-front p [] ys s.1)
+find-front p [] (y ∷ ys) none = let s = or_parts (p y) _ none in rw s.0 (find-front p [] ys s.1)
 find-front p (x ∷ xs) ys none = ap (cond (p x) (Some x)) (find-front p xs ys none)
 
 pub find-back : {X : Type 0} (p : X → Bool) (xs ys : List X) → list_any p xs ≡ false → find p (xs ++ ys) ≡ find p ys
 find-back p [] ys none = refl
-find-back p (x ∷ xs) ys none = let s = or-step (p x) _ none in rw s.0 (find-back p xs ys s.1)
+find-back p (x ∷ xs) ys none = let s = or_parts (p x) _ none in rw s.0 (find-back p xs ys s.1)
 
 pub find-none : {X : Type 0} (p : X → Bool) (xs : List X) → find p xs ≡ None → list_any p xs ≡ false
 find-none p [] = λ none. refl
@@ -107,7 +107,7 @@ found-here a v (request.Read b) q rest t any =
     (hits a (record { event = v; number = v; block = b }))
     (λ _ hit is.
     let same : record { event = v; number = v; block = b } ≡ q = cc in
-    let s = and-step (a.read == v) (a.block == b) hit in
+    let s = and_parts (a.read == v) (a.block == b) hit in
     (ap (λ x. request.Read x.block) same, ap (λ x. x.event) same, sym (ap (λ x. x.number) same) ∙ ap (λ x. x.event) same, eqb-true a.read v s.0 ∙ ap (λ x. x.number) same, eqb-true a.block b s.1 ∙ ap (λ x. x.block) same))
     (λ _ off is. absurd (cc)) refl
 found-here a v request.Barrier q rest t any = λ is. absurd (cc)

@@ -25,9 +25,10 @@ use Rattle.client_rules.specs.State.{ignored}
 use Rattle.client_rules.specs.Tables.{line_of, read_questions, struck, struck_at}
 use Rattle.client_rules.specs.Submitting.{with_batch, next_parts, part_letters, batch_asked}
 use Rattle.client_rules.specs.Serving.{head_faulted, submits, head_known, head_struck, head_judged, before, leaves}
+use Rattle.list_lemmas.proofs.Tests.{by_test}
+use Rattle.list_lemmas.proofs.Lists.{filter_same}
 use Rattle.law_lines.specs.Mirror.{Between, open_of}
 use Rattle.law_lines.specs.Mirrors.{Holds}
-use Rattle.law_lines.proofs.Basics.{by_test, filter_same}
 use Rattle.law_lines.proofs.Ordered.{head-above}
 use Rattle.law_lines.proofs.Hitting.{is_ours, known-struck, struck-table, struck-strikes}
 use Rattle.law_lines.proofs.OpenReads.{with_ended}

@@ -20,9 +20,9 @@ use Rattle.client_rules.specs.State as state
 use Rattle.client_rules.specs.State.{Letter}
 use Rattle.client_rules.specs.Tables.{line_of, read_questions, claim_of}
 use Rattle.client_rules.specs.Serving.{after_leaving, leaves, before}
+use Rattle.list_lemmas.proofs.Tests.{by_test}
 use Rattle.law_lines.specs.Mirror.{Between, waiter_at, AfterHead, is_inside, MirrorsCounts}
 use Rattle.law_lines.specs.Mirrors.{Holds}
-use Rattle.law_lines.proofs.Basics.{by_test}
 use Rattle.law_lines.proofs.Ordered.{between-ends, between-filter, left-line, free-left}
 use Rattle.law_lines.proofs.Settled.{without, unended-more, unended-twice, barrier_due-is, judged-barriers}
 use Rattle.law_lines.proofs.Moving.{CanLeave, settled_judge, inside-filter, leaving-lines, has_left}

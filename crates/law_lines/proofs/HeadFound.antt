@@ -3,14 +3,14 @@ use Rattle.std.proofs.Common.{◌≡◌, ℕ, zero, suc, ◌+◌, ◌*◌, ◌^�
 use Rattle.std.specs.Prelude.{filter, find}
 use Rattle.std.specs.List.{list_any, list_all, range_with_len}
 use Rattle.std.proofs.lemmas.List.Elements.{filter-append}
+use Rattle.std.proofs.lemmas.Bool.{and_parts, or_parts}
 use Rattle.salus_types.specs.Volume.{Shape, blocks}
 use Rattle.salus_message.specs.declared.replies.Answer.{Answer}
 use Rattle.volume_model.specs.Contents.{Batch}
 use Rattle.volume_model.specs.Parts.{blocks_of}
 use Rattle.salus_model.specs.Waiting.{Question, questions_from}
-use Rattle.law_lines.proofs.Basics.{by_test, unequal, unequal_up}
-use Rattle.law_lines.proofs.Counting.{and-step}
-use Rattle.law_lines.proofs.Hitting.{hits, or-step}
+use Rattle.list_lemmas.proofs.Tests.{by_test, unequal, unequal_up, or_true}
+use Rattle.law_lines.proofs.Hitting.{hits}
 use Rattle.law_lines.proofs.Finding.{find-back}
 
 -- the number of a question is q's
@@ -53,11 +53,11 @@ found-head a v inside [] j q all = λ is. absurd (cc)
 found-head a v inside (b ∷ bs) j q all =
     let here : Question = record { event = v; number = 2 ^ 32 * j + v; block = b } in
     let rest : List Question = questions_from v (j + 1) bs in
-    let ins = and-step (inside b) (list_all inside bs) all in
+    let ins = and_parts (inside b) (list_all inside bs) all in
     by_test (λ t. hits a here ≡ t → cond t (Some here) (find (hits a) rest) ≡ Some q → FoundHead a v inside (here ∷ rest) q) (hits a here)
     (λ _ hit is.
     let same : here ≡ q = cc in
-    let s = and-step (a.read == here.number) (a.block == b) hit in
+    let s = and_parts (a.read == here.number) (a.block == b) hit in
     subst (λ x. FoundHead a v inside (here ∷ rest) x) same
     (record {
       front = [];
@@ -102,19 +102,19 @@ blocks-inside shape batch = in_range _ 0 (blocks shape) (blocks shape) (omega ar
 pub filter-off : (number : ℕ) (qs : List Question) → list_any (is_at number) qs ≡ false → filter (λ o. not (is_at number o)) qs ≡ qs
 filter-off number [] off = refl
 filter-off number (o ∷ qs) off =
-    let s = or-step (is_at number o) _ off in
+    let s = or_parts (is_at number o) _ off in
     ap (λ t. cond (not t) (o ∷ filter (λ x. not (is_at number x)) qs) (filter (λ x. not (is_at number x)) qs)) s.0 ∙ ap (λ l. o ∷ l) (filter-off number qs s.1)
 
 pub any-filter : (p u : Question → Bool) (qs : List Question) → list_any p qs ≡ false → list_any p (filter u qs) ≡ false
 any-filter p u [] off = refl
 any-filter p u (o ∷ qs) off =
-    let s = or-step (p o) _ off in
+    let s = or_parts (p o) _ off in
     by_test (λ t. list_any p (cond t (o ∷ filter u qs) (filter u qs)) ≡ false) (u o) (λ _. ap₂ (λ x y. x || y) s.0 (any-filter p u qs s.1)) (λ _. any-filter p u qs s.1)
 
 pub off-hits : (a : Answer) (number : ℕ) (qs : List Question) → a.read ≡ number → list_any (is_at number) qs ≡ false → list_any (hits a) qs ≡ false
 off-hits a number [] same off = refl
 off-hits a number (o ∷ qs) same off =
-    let s = or-step (is_at number o) _ off in
+    let s = or_parts (is_at number o) _ off in
     ap₂ (λ x y. x || y) (ap (λ t. t && (a.block == o.block)) (turned o s.0)) (off-hits a number qs same s.1)
   where
     turned : (x : Question) → is_at number x ≡ false → (a.read == x.number) ≡ false
@@ -139,11 +139,7 @@ closed-parts u q front behind off later =
 
 pub find-off : (p : Question → Bool) (qs : List Question) → list_any p qs ≡ false → find p qs ≡ None
 find-off p [] off = refl
-find-off p (o ∷ qs) off = let s = or-step (p o) _ off in rw s.0 (find-off p qs s.1)
-
-or_true : (b : Bool) → (b || true) ≡ true
-or_true true = refl
-or_true false = refl
+find-off p (o ∷ qs) off = let s = or_parts (p o) _ off in rw s.0 (find-off p qs s.1)
 
 -- what the client finds among those that aren't known
 pub find-filter : (a : Answer) (u : Question → Bool) (q : Question) (front behind : List Question) → list_any (hits a) front ≡ false → list_any (hits a) behind ≡ false → hits a q ≡ true

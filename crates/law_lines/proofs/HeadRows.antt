@@ -4,6 +4,8 @@ use Rattle.std.specs.Prelude.{filter}
 use Rattle.std.specs.List.{list_any, list_all}
 use Rattle.std.proofs.lemmas.List.{map-append}
 use Rattle.std.proofs.lemmas.List.Elements.{filter-append}
+use Rattle.std.proofs.lemmas.List.Folds.{list_all-append}
+use Rattle.std.proofs.lemmas.Bool.{and_parts}
 use Rattle.salus_types.specs.Volume.{Shape, blocks}
 use Rattle.salus_types.specs.declared.names.NodeName.{NodeName}
 use Rattle.salus_message.specs.declared.replies.Answer.{Answer}
@@ -24,11 +26,11 @@ use Rattle.salus_model.specs.Due.{others_known}
 use Rattle.client_rules.specs.State as state
 use Rattle.client_rules.specs.State.{ignored}
 use Rattle.client_rules.specs.Tables.{line_of, read_question, read_questions, closed_at, head_questions, claim_of}
+use Rattle.list_lemmas.proofs.Tests.{by_test, or_assoc, unequal, unequal_up, or_true}
+use Rattle.list_lemmas.proofs.Lists.{list_all_same}
 use Rattle.law_lines.specs.Mirror.{Between, open_of, MirrorsCounts, MirrorsLine, IsInOrder}
 use Rattle.law_lines.specs.Mirrors.{Holds}
-use Rattle.law_lines.proofs.Basics.{by_test, or_assoc, list_all_same, list_all-append2, unequal, unequal_up}
 use Rattle.law_lines.proofs.Ordered.{between-ends, left-line, questions-split}
-use Rattle.law_lines.proofs.Counting.{and-step}
 use Rattle.law_lines.proofs.Histories.{past, AreWork, work_lines}
 use Rattle.law_lines.proofs.Keeping.{before-serving, claims-plain}
 use Rattle.law_lines.proofs.Committed.{said-live, said-phase}
@@ -41,12 +43,8 @@ use Rattle.law_lines.proofs.HeadFound.{is_at, FoundHead, off-hits, closed-parts,
 pub all-filter : (p u : Question → Bool) (qs : List Question) → list_all p qs ≡ true → list_all p (filter u qs) ≡ true
 all-filter p u [] all = refl
 all-filter p u (o ∷ qs) all =
-    let s = and-step (p o) _ all in
+    let s = and_parts (p o) _ all in
     by_test (λ t. list_all p (cond t (o ∷ filter u qs) (filter u qs)) ≡ true) (u o) (λ _. ap₂ (λ x y. x && y) s.0 (all-filter p u qs s.1)) (λ _. all-filter p u qs s.1)
-
-or_true : (b : Bool) → (b || true) ≡ true
-or_true true = refl
-or_true false = refl
 
 read-other : (p : Question → Bool) (v u : ℕ) (r : Request) → u < v → list_all (λ o. not (o.event == v) || p o) (read_question u r) ≡ true
 read-other p v u (request.Write batch) less = refl
@@ -60,7 +58,7 @@ reads-other : (p : Question → Bool) (v low : ℕ) (rs : List Taken) → Betwee
 unfolding Between
 reads-other p v low [] b = refl
 reads-other p v low (r ∷ rs) b =
-    list_all-append2 (λ o. not (o.event == v) || p o) (read_question r.event r.request) (read_questions rs)
+    list_all-append (λ o. not (o.event == v) || p o) (read_question r.event r.request) (read_questions rs)
     ∙ ap₂ (λ x y. x && y) (read-other p v r.event r.request (between-ends r.event v rs b.1)) (reads-other p v r.event rs b.1)
 
 reads-other-three : (m k : Question → Bool) (v low : ℕ) (rs : List Taken) → Between low rs v → list_all (λ o. (not (o.event == v) || m o) || k o) (read_questions rs) ≡ true
@@ -180,8 +178,8 @@ module _ (volume : Volume) (events : List Event) (history : List Past) (judge : 
       q_asked : is_asked shape history judge q ≡ true
       q_asked =
           let parts = sym (ap (list_all (λ o. is_asked shape history judge o)) f.whole) ∙ hq_asked in
-          (and-step (is_asked shape history judge q) _ ((and-step (list_all (λ o. is_asked shape history judge o) f.front) _
-          (sym (list_all-append2 (λ o. is_asked shape history judge o) f.front (q ∷ f.behind)) ∙ parts)).1)).0
+          (and_parts (is_asked shape history judge q) _ ((and_parts (list_all (λ o. is_asked shape history judge o) f.front) _
+          (sym (list_all-append (λ o. is_asked shape history judge o) f.front (q ∷ f.behind)) ∙ parts)).1)).0
 
       -- once it is known it is dropped
       pub dropped : is_known shape q newer ≡ true → map (open_of shape newer) (filter (λ o. not (is_known shape o newer)) hq) ≡ map (open_of shape history) (filter unknown f.front ++ filter unknown f.behind)
@@ -230,7 +228,7 @@ module _ (volume : Volume) (events : List Event) (history : List Past) (judge : 
       pub others_test : others_known shape history (questions shape (live history judge)) q ≡ is_nil (filter unknown f.front ++ filter unknown f.behind)
       others_test =
           ap (list_all other_known) (questions-split shape (live history judge))
-          ∙ list_all-append2 other_known (read_questions (left_of (live history judge))) (head_questions shape (line_of (live history judge)))
+          ∙ list_all-append other_known (read_questions (left_of (live history judge))) (head_questions shape (line_of (live history judge)))
           ∙ ap₂ (λ x y. x && y) (reads-other-three (λ o. o.number == q.number) (λ o. is_known shape o history) q.event 0 (left_of (live history judge))
           (subst (λ v. Between 0 (left_of (live history judge)) v) (sym f.event) (between-front 0 n (left_of (live history judge)) w behind ordered)))
           (ap (list_all other_known) head_is ∙ head-other (λ o. is_at q.number o) (λ o. is_known shape o history) q.event w.event 1 (blocks_of shape batch) f.event)

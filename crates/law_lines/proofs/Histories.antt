@@ -10,8 +10,8 @@ use Rattle.salus_model.specs.Judge.{Judge}
 use Rattle.salus_model.specs.Hearing.{News, Past, since, news_since, opens, is_open_line, is_stage_line, is_refused_line, Phase, phase_by_line}
 use Rattle.salus_model.specs.Waiting.{Taken, taken_in, all_taken, unended, live, has_ended, Question}
 use Rattle.salus_model.specs.Answering.{verdict_in, verdict_then, is_known, first_strike}
+use Rattle.list_lemmas.proofs.Tests.{by_test, or_false, or_none, same_either}
 use Rattle.law_lines.specs.Mirror.{IsUntouched, open_of}
-use Rattle.law_lines.proofs.Basics.{by_test, or_false, or_none, same_either}
 
 -- a step with what it told, and its lines
 abbrev pub past : TraceStep → News → Judge → List Line → Past

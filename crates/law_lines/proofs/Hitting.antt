@@ -3,6 +3,7 @@ use Rattle.std.proofs.Common.{◌≡◌, ℕ, zero, suc, ◌+◌, Bool, true, fa
 use Rattle.std.specs.Prelude.{filter}
 use Rattle.std.specs.List.{list_any, list_all, range_with_len}
 use Rattle.std.specs.Option.{option_or}
+use Rattle.std.proofs.lemmas.Bool.{and_parts, or_parts}
 use Rattle.salus_types.specs.Volume.{Shape}
 use Rattle.salus_types.specs.declared.names.NodeName.{NodeName}
 use Rattle.salus_types.specs.declared.strike.Strike.{Strike}
@@ -15,14 +16,10 @@ use Rattle.salus_model.specs.Hearing.{Says, Past}
 use Rattle.salus_model.specs.Waiting.{Question, is_asked}
 use Rattle.salus_model.specs.Answering.{Verdict, Stale, Good, Struck, is_fitting, verdict_of, is_answer, is_known, first_strike, is_good, strike_by}
 use Rattle.client_rules.specs.Tables.{answers, struck_from, struck, struck_at}
+use Rattle.list_lemmas.proofs.Tests.{by_test, or_false, or_none}
+use Rattle.list_lemmas.proofs.Lists.{map_same}
 use Rattle.law_lines.specs.Mirror.{open_of}
-use Rattle.law_lines.proofs.Basics.{by_test, or_false, or_none, map_same}
-use Rattle.law_lines.proofs.Counting.{and-step}
 use Rattle.law_lines.proofs.Histories.{past, AgreeOn, agree-none, agree-same}
-
-pub or-step : (t u : Bool) → (t || u) ≡ false → (t ≡ false) × (u ≡ false)
-or-step true u h = absurd (cc)
-or-step false u h = (refl, h)
 
 -- the answer is to that number and block
 abbrev pub hits : Answer → Question → Bool
@@ -126,28 +123,28 @@ module _ (shape : Shape) (history : List Past) (judge : Judge) (step : TraceStep
   pub off-open : (qs : List Question) → list_any (λ q. is_answer shape judge q name a) qs ≡ false → map (open_of shape next) qs ≡ map (open_of shape history) qs
   off-open [] off = refl
   off-open (q ∷ qs) off =
-      let s = or-step (is_answer shape judge q name a) _ off in
+      let s = or_parts (is_answer shape judge q name a) _ off in
       ap₂ (λ x xs. x ∷ xs) (agree-same shape q next history (agree-off q s.0)) (off-open qs s.1)
 
   pub off-known : (qs : List Question) → list_any (λ q. is_answer shape judge q name a) qs ≡ false
       → filter (λ q. not (is_known shape q next)) qs ≡ filter (λ q. not (is_known shape q history)) qs
   off-known [] off = refl
   off-known (q ∷ qs) off =
-      let s = or-step (is_answer shape judge q name a) _ off in
+      let s = or_parts (is_answer shape judge q name a) _ off in
       ap₂ (λ t xs. cond (not t) (q ∷ xs) xs) (agree-off q s.0).known (off-known qs s.1)
 
   pub off-any : (qs : List Question) → list_any (λ q. is_answer shape judge q name a) qs ≡ false
       → list_any (λ q. is_known shape q next) qs ≡ list_any (λ q. is_known shape q history) qs
   off-any [] off = refl
   off-any (q ∷ qs) off =
-      let s = or-step (is_answer shape judge q name a) _ off in
+      let s = or_parts (is_answer shape judge q name a) _ off in
       ap₂ (λ t u. t || u) (agree-off q s.0).known (off-any qs s.1)
 
   pub off-filter : (p : Question → Bool) (qs : List Question) → list_any (λ q. is_answer shape judge q name a) qs ≡ false
       → list_any (λ q. is_answer shape judge q name a) (filter p qs) ≡ false
   off-filter p [] off = refl
   off-filter p (q ∷ qs) off =
-      let s = or-step (is_answer shape judge q name a) _ off in
+      let s = or_parts (is_answer shape judge q name a) _ off in
       by_test (λ t. list_any (λ x. is_answer shape judge x name a) (cond t (q ∷ filter p qs) (filter p qs)) ≡ false) (p q)
       (λ _. ap₂ (λ x y. x || y) s.0 (off-filter p qs s.1)) (λ _. off-filter p qs s.1)
 
@@ -179,5 +176,5 @@ module _ (shape : Shape) (history : List Past) (judge : Judge) (step : TraceStep
       → struck_at a name.replica s (map (open_of shape history) qs) ≡ map (open_of shape next) qs
   struck-table s struck_so ours [] asked = refl
   struck-table s struck_so ours (q ∷ qs) asked =
-      let t = and-step (is_asked shape history judge q) _ asked in
+      let t = and_parts (is_asked shape history judge q) _ asked in
       ap₂ (λ x xs. x ∷ xs) (struck-open s struck_so ours q t.0) (struck-table s struck_so ours qs t.1)

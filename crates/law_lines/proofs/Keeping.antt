@@ -11,8 +11,8 @@ use Rattle.salus_model.specs.Answering.{is_known}
 use Rattle.salus_model.specs.Due.{is_claim}
 use Rattle.client_rules.specs.State as state
 use Rattle.client_rules.specs.Tables.{line_of, read_questions, head_questions}
+use Rattle.list_lemmas.proofs.Lists.{map_same, filter_same, list_any_same}
 use Rattle.law_lines.specs.Mirror.{Between, IsUntouched, open_of, AfterHead, MirrorsLine, MirrorsClaims, IsInOrder, MirrorsServing, IsBefore}
-use Rattle.law_lines.proofs.Basics.{map_same, filter_same, list_any_same}
 use Rattle.law_lines.proofs.Ordered.{between-up, between-ends, head-below}
 use Rattle.law_lines.proofs.Histories.{AgreeOn, agree-same, untouched-agree, news-plain}
 

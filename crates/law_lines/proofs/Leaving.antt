@@ -3,6 +3,7 @@ use Rattle.std.proofs.Common.{◌≡◌, ℕ, ◌+◌, ◌*◌, ◌^◌, ◌<◌
 use Rattle.std.specs.Prelude.{filter, flat_map}
 use Rattle.std.specs.List.{list_any, range_with_len}
 use Rattle.std.proofs.lemmas.List.{map-append}
+use Rattle.std.proofs.lemmas.List.Folds.{list_any-append}
 use Rattle.salus_types.specs.Volume.{Shape}
 use Rattle.salus_types.specs.declared.strike.Strike.{Strike}
 use Rattle.printed_lines.specs.declared.line.Line.{Line}
@@ -17,8 +18,8 @@ use Rattle.salus_model.specs.Answering.{is_known, first_strike}
 use Rattle.salus_model.specs.Due.{barrier_due}
 use Rattle.client_rules.specs.State.{Serving}
 use Rattle.client_rules.specs.Tables.{fresh, read_question, read_questions, head_questions, waiter_of, answered_of}
+use Rattle.list_lemmas.proofs.Tests.{by_test}
 use Rattle.law_lines.specs.Mirror.{Between, IsUntouched, open_of, waiter_at, AfterHead}
-use Rattle.law_lines.proofs.Basics.{by_test, list_any-append2}
 use Rattle.law_lines.proofs.Settled.{is_due, barrier_due-is}
 
 -- ---- new questions
@@ -64,7 +65,7 @@ module _ (shape : Shape) (history : List Past) (low : ℕ) (untouched : (q : Que
   reads-unknown below n (r ∷ rs) up b =
       let h = b.0 in
       by_test (λ t. list_any (λ q. is_known shape q history) (read_questions (if t then [] else r ∷ left_of rs)) ≡ false) (is_write r.request) (λ _. refl)
-      (λ _. list_any-append2 (λ q. is_known shape q history) (read_question r.event r.request) (read_questions (left_of rs))
+      (λ _. list_any-append (λ q. is_known shape q history) (read_question r.event r.request) (read_questions (left_of rs))
       ∙ ap₂ (λ x y. x || y) (read-unknown r.event r.request (omega (arith, up, h))) (reads-unknown r.event n rs (omega (arith, up, h)) b.1))
 
   from-fresh : (v j : ℕ) (bs : List ℕ) → low < v

@@ -5,6 +5,7 @@ use Rattle.std.specs.List.{list_any, list_all}
 use Rattle.std.proofs.lemmas.List.{map-append}
 use Rattle.std.proofs.lemmas.Grind.{flat_map-append}
 use Rattle.std.proofs.lemmas.List.Elements.{filter-append}
+use Rattle.std.proofs.lemmas.List.Folds.{list_any-append}
 use Rattle.salus_types.specs.Volume.{Shape}
 use Rattle.salus_model.specs.Judge.{Judge, last_number, front_of}
 use Rattle.salus_model.specs.Hearing.{Past}
@@ -15,7 +16,6 @@ use Rattle.client_rules.specs.State.{Serving}
 use Rattle.client_rules.specs.Tables.{fresh, line_of, read_questions, head_questions, waiter_of, answered_of}
 use Rattle.client_rules.specs.Serving.{after_leaving}
 use Rattle.law_lines.specs.Mirror.{Between, IsUntouched, open_of, waiter_at, AfterHead, is_inside, MirrorsCounts, MirrorsLine, IsInOrder}
-use Rattle.law_lines.proofs.Basics.{list_any-append2}
 use Rattle.law_lines.proofs.Ordered.{AreFree, between-low, between-back, between-filter, left-line, left_of-free, line_of-free}
 use Rattle.law_lines.proofs.Settled.{is_due, due_events, with_answered, stays, settled, settled-left, settled-line, settled-none}
 use Rattle.law_lines.proofs.Leaving.{reads-fresh, reads-unknown, head-fresh, after-untouched, left-answered, left-waits, all-stay, reads-stay}
@@ -157,7 +157,7 @@ module _ (shape : Shape) (history : List Past) (judge : Judge) (c : Serving) (le
         (subst (λ l. Between judge.latest l n) (sym line_all) (between-low low judge.latest n (line_of rest) can.up line-later))
         can.inside
         (ap (λ qs. list_any (λ q. is_known shape q history) qs) all-reads
-        ∙ list_any-append2 (λ q. is_known shape q history) (read_questions left) (read_questions (left_of rest))
+        ∙ list_any-append (λ q. is_known shape q history) (read_questions left) (read_questions (left_of rest))
         ∙ ap₂ (λ x y. x || y) can.unknown (reads-unknown shape history low can.untouched low n rest (omega arith) can.later))
         (λ q after. after-untouched shape history low can.untouched n (line_of rest) line-later q (subst (λ l. AfterHead l n q.event) line_all after))
         can.front;

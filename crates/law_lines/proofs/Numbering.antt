@@ -1,6 +1,7 @@
 -- The numbers of reads are below 2^32, and those of the head's questions are not. What is asked, and what isn't.
 use Rattle.std.proofs.Common.{◌≡◌, ℕ, ◌+◌, ◌*◌, ◌^◌, ◌<◌, ◌≤◌, Bool, true, false, ◌&&◌, ◌||◌, ◌==◌, ◌∙◌, List, [], ◌∷◌, ◌++◌, refl, ap, ap₂, sym, subst, arith, eq-eqb, append_assoc, append-nil}
 use Rattle.std.specs.List.{list_any, list_all}
+use Rattle.std.proofs.lemmas.List.Folds.{list_any-append}
 use Rattle.salus_types.specs.Volume.{Shape}
 use Rattle.salus_message.specs.declared.replies.Answer.{Answer}
 use Rattle.salus_model.specs.declared.trace.Request.{Request}
@@ -10,8 +11,9 @@ use Rattle.salus_model.specs.Judge.{Judge}
 use Rattle.salus_model.specs.Hearing.{Past, phase_of, is_serving, Serving}
 use Rattle.salus_model.specs.Waiting.{Taken, is_write, left_of, live, Question, same_question, questions_from, questions_of, questions, is_asked}
 use Rattle.client_rules.specs.Tables.{read_question, read_questions, line_of, head_questions}
+use Rattle.list_lemmas.proofs.Tests.{unequal, unequal_up, or_true}
+use Rattle.list_lemmas.proofs.Lists.{list_all_same}
 use Rattle.law_lines.specs.Mirror.{Between, AfterHead}
-use Rattle.law_lines.proofs.Basics.{unequal, unequal_up, list_any-append2, list_all_same}
 use Rattle.law_lines.proofs.Ordered.{between-ends, left-line, questions-split, head-writes}
 use Rattle.law_lines.proofs.Hitting.{hits}
 use Rattle.law_lines.proofs.Finding.{between-front}
@@ -58,7 +60,7 @@ unfolding Between
 reads-low a low n [] b small up = refl
 reads-low a low n (r ∷ rs) b small up =
     let less = between-ends r.event n rs b.1 in
-    list_any-append2 (hits a) (read_question r.event r.request) (read_questions rs)
+    list_any-append (hits a) (read_question r.event r.request) (read_questions rs)
     ∙ ap₂ (λ x y. x || y) (read-low a r.event r.request (omega (arith, less, small)) up) (reads-low a r.event n rs b.1 small up)
 
 -- ---- what is asked
@@ -66,15 +68,11 @@ reads-low a low n (r ∷ rs) b small up =
 itself : (q : Question) → same_question q q ≡ true
 itself q = ap₂ (λ x y. x && y) (ap₂ (λ x y. x && y) (eq-eqb q.event q.event refl) (eq-eqb q.number q.number refl)) (eq-eqb q.block q.block refl)
 
-or_true : (b : Bool) → (b || true) ≡ true
-or_true true = refl
-or_true false = refl
-
 all-among : (before qs : List Question) → list_all (λ q. list_any (same_question q) (before ++ qs)) qs ≡ true
 all-among before [] = refl
 all-among before (q ∷ qs) =
     let here : list_any (same_question q) (before ++ q ∷ qs) ≡ true =
-    list_any-append2 (same_question q) before (q ∷ qs) ∙ ap (λ t. list_any (same_question q) before || (t || list_any (same_question q) qs)) (itself q) ∙ or_true _ in
+    list_any-append (same_question q) before (q ∷ qs) ∙ ap (λ t. list_any (same_question q) before || (t || list_any (same_question q) qs)) (itself q) ∙ or_true _ in
     let same : (before ++ q ∷ []) ++ qs ≡ before ++ q ∷ qs = append_assoc before (q ∷ []) qs in
     ap₂ (λ x y. x && y) here (ap (λ all. list_all (λ x. list_any (same_question x) all) qs) (sym same) ∙ all-among (before ++ q ∷ []) qs)
 
@@ -93,7 +91,7 @@ unfolding Between
 reads-before q low n [] b up = refl
 reads-before q low n (r ∷ rs) b up =
     let less = between-ends r.event n rs b.1 in
-    list_any-append2 (same_question q) (read_question r.event r.request) (read_questions rs)
+    list_any-append (same_question q) (read_question r.event r.request) (read_questions rs)
     ∙ ap₂ (λ x y. x || y) (read-before q r.event r.request (omega (arith, less, up))) (reads-before q r.event n rs b.1 up)
 
 from-before : (q : Question) (v j : ℕ) (bs : List ℕ) → v < q.event → list_any (same_question q) (questions_from v j bs) ≡ false
@@ -111,10 +109,10 @@ one-before shape q v (request.Reassign e g) less = refl
 after-asked : (shape : Shape) (q : Question) (n : ℕ) (left line : List Taken) → Between 0 (left ++ line) n → AfterHead line n q.event
     → list_any (same_question q) (read_questions left ++ head_questions shape line) ≡ false
 after-asked shape q n left [] b after =
-    list_any-append2 (same_question q) (read_questions left) []
+    list_any-append (same_question q) (read_questions left) []
     ∙ ap (λ t. t || false) (reads-before q 0 n left (subst (λ rs. Between 0 rs n) (append-nil left) b) after)
 after-asked shape q n left (w ∷ behind) b after =
-    list_any-append2 (same_question q) (read_questions left) (questions_of shape w.event w.request)
+    list_any-append (same_question q) (read_questions left) (questions_of shape w.event w.request)
     ∙ ap₂ (λ x y. x || y) (reads-before q 0 w.event left (between-front 0 n left w behind b) (omega (arith, after))) (one-before shape q w.event w.request after)
 
 module _ (shape : Shape) (history : List Past) (judge : Judge) (serves : phase_of history ≡ Serving) where

@@ -4,6 +4,8 @@ use Rattle.std.specs.Prelude.{filter, flat_map}
 use Rattle.std.specs.List.{list_any, list_all}
 use Rattle.std.proofs.lemmas.Grind.{flat_map-append}
 use Rattle.std.proofs.lemmas.List.Elements.{filter-append}
+use Rattle.std.proofs.lemmas.List.Folds.{list_any-append}
+use Rattle.std.proofs.lemmas.Bool.{or_parts}
 use Rattle.salus_types.specs.declared.names.NodeName.{NodeName}
 use Rattle.salus_message.specs.declared.replies.Answer.{Answer}
 use Rattle.salus_message.specs.declared.wire.Message.TheVariants as message
@@ -22,16 +24,16 @@ use Rattle.client_rules.specs.State as state
 use Rattle.client_rules.specs.State.{only_lines}
 use Rattle.client_rules.specs.Tables.{line_of, read_question, read_questions, head_questions, closed_at}
 use Rattle.client_rules.specs.Serving.{read_ended}
+use Rattle.list_lemmas.proofs.Tests.{by_test, unequal, unequal_up}
 use Rattle.law_lines.specs.Mirror.{Between, IsUntouched, open_of, waiter_at, AfterHead, is_inside, MirrorsLine, IsInOrder}
 use Rattle.law_lines.specs.Mirrors.{Holds, AsDue}
-use Rattle.law_lines.proofs.Basics.{by_test, unequal, unequal_up, list_any-append2}
 use Rattle.law_lines.proofs.Ordered.{AreFree, between-ends, between-filter, left-line, free-left, left_of-free, left_of-line, line_of-free, line_of-line}
 use Rattle.law_lines.proofs.Settled.{without, unended-more}
 use Rattle.law_lines.proofs.Moving.{inside-filter}
 use Rattle.law_lines.proofs.Histories.{past, is_work, AreWork, work_lines, untouched-agree}
 use Rattle.law_lines.proofs.Keeping.{before-serving, claims-plain}
 use Rattle.law_lines.proofs.Committed.{said-live, said-phase}
-use Rattle.law_lines.proofs.Hitting.{or-step, is_ours, hits, answer-is, agree-unasked, off-open, off-known, off-any, off-filter}
+use Rattle.law_lines.proofs.Hitting.{is_ours, hits, answer-is, agree-unasked, off-open, off-known, off-any, off-filter}
 use Rattle.law_lines.proofs.Finding.{FoundRead, closed-map, without-one, between-front, between-behind, between-take}
 use Rattle.law_lines.proofs.Numbering.{after-unasked}
 
@@ -61,8 +63,8 @@ ended-below judge v n less before u =
 -- ---- two parts without the one between them
 
 free-parts : (xs ys : List Taken) (r : Taken) → AreFree (xs ++ r ∷ ys) → AreFree (xs ++ ys)
-free-parts [] ys r free = (or-step (is_write r.request) _ free).1
-free-parts (x ∷ xs) ys r free = let s = or-step (is_write x.request) _ free in ap₂ (λ a b. a || b) s.0 (free-parts xs ys r s.1)
+free-parts [] ys r free = (or_parts (is_write r.request) _ free).1
+free-parts (x ∷ xs) ys r free = let s = or_parts (is_write x.request) _ free in ap₂ (λ a b. a || b) s.0 (free-parts xs ys r s.1)
 
 one-apart : (u v : ℕ) (r : Request) → (u == v) ≡ false → filter (λ q. not (q.number == v)) (read_question u r) ≡ read_question u r
 one-apart u v (request.Write batch) off = refl
@@ -99,7 +101,7 @@ unfolding Between
 off-behind a low n [] up b = refl
 off-behind a low n (r ∷ rs) up b =
     let h = b.0 in
-    list_any-append2 (hits a) (read_question r.event r.request) (read_questions rs)
+    list_any-append (hits a) (read_question r.event r.request) (read_questions rs)
     ∙ ap₂ (λ x y. x || y) (one-off a r.event r.request (unequal_up a.read r.event (omega (arith, up, h)))) (off-behind a r.event n rs (omega (arith, up, h)) b.1)
 
 off-front : (a : Answer) (low v : ℕ) (rs : List Taken) → v ≤ a.read → Between low rs v → list_any (hits a) (read_questions rs) ≡ false
@@ -107,7 +109,7 @@ unfolding Between
 off-front a low v [] up b = refl
 off-front a low v (r ∷ rs) up b =
     let less = between-ends r.event v rs b.1 in
-    list_any-append2 (hits a) (read_question r.event r.request) (read_questions rs)
+    list_any-append (hits a) (read_question r.event r.request) (read_questions rs)
     ∙ ap₂ (λ x y. x || y) (one-off a r.event r.request (unequal r.event a.read (omega (arith, less, up)))) (off-front a r.event v rs up b.1)
 
 module _ (volume : Volume) (events : List Event) (history : List Past) (judge : Judge) (n m : ℕ) (c : state.Serving) (step : TraceStep) (name : NodeName) (a : Answer)
@@ -119,7 +121,7 @@ module _ (volume : Volume) (events : List Event) (history : List Past) (judge : 
   pub no-answer : (qs : List Question) → list_any (hits a) qs ≡ false → list_any (λ q. is_answer volume.geometry judge q name a) qs ≡ false
   no-answer [] off = refl
   no-answer (q ∷ qs) off =
-      let s = or-step (hits a q) _ off in ap₂ (λ x y. x || y) (answer-is volume.geometry judge q name a ∙ ap₂ (λ x y. x && y) ours s.0) (no-answer qs s.1)
+      let s = or_parts (hits a q) _ off in ap₂ (λ x y. x || y) (answer-is volume.geometry judge q name a ∙ ap₂ (λ x y. x && y) ours s.0) (no-answer qs s.1)
 
   abbrev pub after : List Line → List Past
   after due = past step (Says name (message.Answer a)) judge due ∷ history
@@ -185,7 +187,7 @@ module _ (volume : Volume) (events : List Event) (history : List Past) (judge : 
     behind_off = off-behind a q.event n behind (let e = number_is in omega (arith, e)) behind_alone
 
     both_off : list_any (λ x. is_answer volume.geometry judge x name a) (read_questions (front ++ behind)) ≡ false
-    both_off = no-answer _ (ap (list_any (hits a)) without_this ∙ list_any-append2 (hits a) (read_questions front) (read_questions behind) ∙ ap₂ (λ x y. x || y) front_off behind_off)
+    both_off = no-answer _ (ap (list_any (hits a)) without_this ∙ list_any-append (hits a) (read_questions front) (read_questions behind) ∙ ap₂ (λ x y. x || y) front_off behind_off)
 
     head_no : list_any (λ x. is_answer volume.geometry judge x name a) (head_questions volume.geometry (line_of requests)) ≡ false
     head_no = no-answer _ head_off
@@ -223,12 +225,12 @@ module _ (volume : Volume) (events : List Event) (history : List Past) (judge : 
     parts_unknown due =
         let whole_unknown : list_any (λ x. is_known volume.geometry x history) (read_questions front ++ (record { event = q.event; number = q.event; block = q.block } ∷ read_questions behind)) ≡ false =
         ap (list_any (λ x. is_known volume.geometry x history)) (sym with_this) ∙ h.mirrors.order.unknown in
-        let s = or-step (list_any (λ x. is_known volume.geometry x history) (read_questions front)) _
-        (sym (list_any-append2 (λ x. is_known volume.geometry x history) (read_questions front) (record { event = q.event; number = q.event; block = q.block } ∷ read_questions behind)) ∙ whole_unknown) in
-        let t = or-step (is_known volume.geometry (record { event = q.event; number = q.event; block = q.block }) history) _ s.1 in
+        let s = or_parts (list_any (λ x. is_known volume.geometry x history) (read_questions front)) _
+        (sym (list_any-append (λ x. is_known volume.geometry x history) (read_questions front) (record { event = q.event; number = q.event; block = q.block } ∷ read_questions behind)) ∙ whole_unknown) in
+        let t = or_parts (is_known volume.geometry (record { event = q.event; number = q.event; block = q.block }) history) _ s.1 in
         off-any volume.geometry history judge step name a due (read_questions (front ++ behind)) both_off
         ∙ ap (list_any (λ x. is_known volume.geometry x history)) without_this
-        ∙ list_any-append2 (λ x. is_known volume.geometry x history) (read_questions front) (read_questions behind)
+        ∙ list_any-append (λ x. is_known volume.geometry x history) (read_questions front) (read_questions behind)
         ∙ ap₂ (λ x y. x || y) s.0 t.1
 
     ended_table : (due : List Line) → MirrorsLine volume.geometry (after due) (with_ended judge q.event) ((front ++ behind) ++ line_of requests) (record c { reads = closed_at q.number c.reads })

@@ -3,6 +3,7 @@ use Rattle.std.proofs.Common.{◌≡◌, ℕ, ◌<◌, true, false, ◌||◌, �
 use Rattle.std.specs.Prelude.{filter, flat_map, IfSome}
 use Rattle.std.proofs.lemmas.Grind.{flat_map-append}
 use Rattle.std.proofs.lemmas.List.Elements.{filter-append}
+use Rattle.std.proofs.lemmas.List.Folds.{list_any-append}
 use Rattle.salus_types.specs.Volume.{Shape}
 use Rattle.salus_types.specs.declared.names.NodeName.{NodeName}
 use Rattle.salus_types.specs.declared.records.Held.{Held}
@@ -24,8 +25,9 @@ use Rattle.salus_model.specs.Due.{due_choice, due_replies, due_gathering}
 use Rattle.client_rules.specs.State as state
 use Rattle.client_rules.specs.State.{ignored}
 use Rattle.client_rules.specs.Opening.{has_answered, with_held, with_reply_of, joined_blocks, chosen, gathered_all, gathered_here, staged_from}
+use Rattle.list_lemmas.proofs.Tests.{by_test}
+use Rattle.list_lemmas.proofs.Lists.{list_all_same}
 use Rattle.law_lines.specs.Mirrors.{Holds, AsDue, IsFrontOf, ChoiceHolds}
-use Rattle.law_lines.proofs.Basics.{by_test, list_all_same, list_any-append2}
 use Rattle.law_lines.proofs.Histories.{past}
 use Rattle.law_lines.proofs.Away.{before-away, news-begins, replies-kept}
 use Rattle.law_lines.proofs.Openings.{HasNodes, staged_as_due}
@@ -70,8 +72,8 @@ reply-more volume g replies name held m =
     (if t then replies else replies ++ record { name = name; held = held } ∷ [])) (has_replied name replies)
     (λ _. m)
     (λ _. record {
-      answered = λ who. list_any-append2 (λ x. same_node x who) g.answered (name ∷ []) ∙ ap (λ t. t || (same_node name who || false)) (m.answered who)
-          ∙ sym (list_any-append2 (λ r. same_node r.name who) replies (record { name = name; held = held } ∷ []));
+      answered = λ who. list_any-append (λ x. same_node x who) g.answered (name ∷ []) ∙ ap (λ t. t || (same_node name who || false)) (m.answered who)
+          ∙ sym (list_any-append (λ r. same_node r.name who) replies (record { name = name; held = held } ∷ []));
       pool = ap (with_held volume.geometry volume.key held) m.pool ∙ pool-more volume.geometry volume.key replies name held;
     }))
 

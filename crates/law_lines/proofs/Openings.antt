@@ -4,6 +4,7 @@ use Rattle.std.specs.Prelude.{find}
 use Rattle.std.specs.List.{list_any}
 use Rattle.std.proofs.lemmas.List.{take_all}
 use Rattle.std.proofs.lemmas.List.FromFn.{get_or-map-range_with_len}
+use Rattle.std.proofs.lemmas.List.Folds.{list_any-append}
 use Rattle.salus_types.specs.Volume.{Shape, regions}
 use Rattle.salus_types.specs.declared.names.NodeName.{NodeName}
 use Rattle.schedule_text.specs.declared.schedule.Volume.{Volume}
@@ -19,13 +20,12 @@ use Rattle.salus_model.specs.Waiting.{live, all_taken, left_of}
 use Rattle.salus_model.specs.Opening.{says_staged, has_switched}
 use Rattle.salus_model.specs.Due.{is_claim}
 use Rattle.client_rules.specs.State as state
-use Rattle.client_rules.specs.State.{Letter}
 use Rattle.client_rules.specs.Tables.{claim_of, line_of}
 use Rattle.client_rules.specs.Opening.{has_answered, all_answered, with_name, new_serving, staged_from}
+use Rattle.list_lemmas.proofs.Tests.{by_test, unequal_up}
+use Rattle.law_lemmas.proofs.Named.{one-node}
 use Rattle.law_lines.specs.Mirror.{Between, IsBefore, IsInOrder, MirrorsLine}
 use Rattle.law_lines.specs.Mirrors.{MirrorsKnown, Holds, AsDue, OpensBelow}
-use Rattle.law_lines.proofs.Basics.{by_test, unequal_up, list_any-append2}
-use Rattle.law_lines.proofs.Claiming.{one-node}
 use Rattle.law_lines.proofs.Histories.{past}
 use Rattle.law_lines.proofs.Away.{IsAway, before-away}
 
@@ -39,7 +39,7 @@ with-name name other names =
     by_test (λ t. has_answered name names ≡ t → has_answered other (if t then names else names ++ name ∷ []) ≡ (same_node name other || has_answered other names)) (has_answered name names)
     (λ _ there. by_test (λ t. same_node name other ≡ t → has_answered other names ≡ (t || has_answered other names)) (same_node name other)
     (λ _ same. ap (λ x. has_answered x names) (sym (one-node name other same)) ∙ there) (λ _ _. refl) refl)
-    (λ _ _. list_any-append2 (λ x. same_node x other) names (name ∷ []) ∙ turn (has_answered other names) (same_node name other)) refl
+    (λ _ _. list_any-append (λ x. same_node x other) names (name ∷ []) ∙ turn (has_answered other names) (same_node name other)) refl
   where
     turn : (a b : Bool) → (a || (b || false)) ≡ (b || a)
     turn true true = refl

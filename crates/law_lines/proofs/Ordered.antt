@@ -1,14 +1,15 @@
 -- Requests in order, and how the first write splits them.
-use Rattle.std.proofs.Common.{◌≡◌, ℕ, ◌+◌, ◌<◌, ◌≤◌, Bool, true, false, cond, ◌||◌, ◌∙◌, if◌then◌else◌, List, [], ◌∷◌, ◌++◌, refl, ap, sym, arith, append_assoc, append-nil}
+use Rattle.std.proofs.Common.{◌≡◌, ℕ, ◌+◌, ◌<◌, ◌≤◌, Bool, true, false, cond, ◌∙◌, if◌then◌else◌, List, [], ◌∷◌, ◌++◌, refl, ap, sym, arith, append_assoc, append-nil}
 use Rattle.std.specs.Prelude.{filter}
 use Rattle.std.specs.List.{list_any}
+use Rattle.std.proofs.lemmas.Bool.{or_parts}
 use Rattle.salus_types.specs.Volume.{Shape}
 use Rattle.salus_model.specs.declared.trace.Request.{Request}
 use Rattle.salus_model.specs.declared.trace.Request.TheVariants as request
 use Rattle.salus_model.specs.Waiting.{Taken, is_write, left_of, questions_of, questions}
 use Rattle.client_rules.specs.Tables.{line_of, read_question, read_questions, head_questions}
+use Rattle.list_lemmas.proofs.Tests.{by_test}
 use Rattle.law_lines.specs.Mirror.{Between}
-use Rattle.law_lines.proofs.Basics.{by_test}
 
 -- ---- order
 
@@ -68,19 +69,15 @@ left-line (r ∷ rs) =
 abbrev pub AreFree : List Taken → Type 0
 AreFree rs = list_any (λ r. is_write r.request) rs ≡ false
 
-pub free-step : (t u : Bool) → (t || u) ≡ false → (t ≡ false) × (u ≡ false)
-free-step true u h = cc
-free-step false u h = (refl, h)
-
 pub left_of-free : (xs ys : List Taken) → AreFree xs → left_of (xs ++ ys) ≡ xs ++ left_of ys
 unfolding left_of
 left_of-free [] ys free = refl
-left_of-free (x ∷ xs) ys free = let s = free-step (is_write x.request) _ free in rw s.0 (ap (λ l. x ∷ l) (left_of-free xs ys s.1))
+left_of-free (x ∷ xs) ys free = let s = or_parts (is_write x.request) _ free in rw s.0 (ap (λ l. x ∷ l) (left_of-free xs ys s.1))
 
 pub line_of-free : (xs ys : List Taken) → AreFree xs → line_of (xs ++ ys) ≡ line_of ys
 unfolding line_of
 line_of-free [] ys free = refl
-line_of-free (x ∷ xs) ys free = let s = free-step (is_write x.request) _ free in rw s.0 (line_of-free xs ys s.1)
+line_of-free (x ∷ xs) ys free = let s = or_parts (is_write x.request) _ free in rw s.0 (line_of-free xs ys s.1)
 
 pub free-left : (rs : List Taken) → AreFree (left_of rs)
 unfolding left_of
@@ -92,7 +89,7 @@ free-left (r ∷ rs) =
 pub free-filter : (p : Taken → Bool) (rs : List Taken) → AreFree rs → AreFree (filter p rs)
 free-filter p [] free = refl
 free-filter p (r ∷ rs) free =
-    let s = free-step (is_write r.request) _ free in
+    let s = or_parts (is_write r.request) _ free in
     by_test (λ t. AreFree (cond t (r ∷ filter p rs) (filter p rs))) (p r) (λ _. rw s.0 (free-filter p rs s.1)) (λ _. free-filter p rs s.1)
 
 pub left_of-line : (rs : List Taken) → left_of (line_of rs) ≡ []

@@ -2,7 +2,8 @@
 use Rattle.std.proofs.Common.{◌≡◌, ℕ, zero, suc, ◌+◌, ◌-◌, ◌<◌, ◌≤◌, true, false, ◌==◌, ◌∙◌, if◌then◌else◌, List, [], ◌∷◌, ◌++◌, map, length, take, drop, get_or, None, refl, ap, ap₂, sym, arith, length-append, eq-eqb, eqb-true}
 use Rattle.std.specs.Prelude.{replicate}
 use Rattle.std.specs.List.{range_with_len}
-use Rattle.std.proofs.lemmas.List.{take_all, take-append-le}
+use Rattle.std.proofs.lemmas.List.{take_all, take-append-le, get_or_append_left}
+use Rattle.std.proofs.Math.Seq.{get_or-append_seam}
 use Rattle.salus_types.specs.Volume.{Shape, regions}
 use Rattle.schedule_text.specs.declared.schedule.Volume.{Volume}
 use Rattle.volume_model.specs.Contents.{Batch, all_regions, apply, fold_batches, region_root, volume_top}
@@ -13,25 +14,16 @@ use Rattle.client_rules.specs.State as state
 use Rattle.client_rules.specs.Tables.{number_at}
 use Rattle.client_rules.specs.Submitting.{next_header, next_part}
 use Rattle.client_rules.specs.Opening.{base_record}
+use Rattle.list_lemmas.proofs.Tests.{by_test}
+use Rattle.law_lemmas.proofs.Numbered.{fold_batches-one}
 use Rattle.law_lines.specs.Mirror.{MirrorsCounts}
 use Rattle.law_lines.specs.Mirrors.{MirrorsKnown}
-use Rattle.law_lines.proofs.Basics.{by_test}
-use Rattle.law_lines.proofs.Submitted.{fold_batches-more, number-more}
+use Rattle.law_lines.proofs.Submitted.{number-more}
 
 -- two functions that agree on these numbers
 map-range : {A : Type 0} (f g : ℕ → A) (a n m : ℕ) → a + n ≤ m → ((r : ℕ) → r < m → f r ≡ g r) → map f (range_with_len a n) ≡ map g (range_with_len a n)
 map-range f g a zero m up same = refl
 map-range f g a (suc n) m up same = ap₂ (λ x xs. x ∷ xs) (same a (omega (arith, up))) (map-range f g (a + 1) n m (omega (arith, up)) same)
-
--- the last of a list, and those before it
-last-one : (list : List Batch) (batch : Batch) → get_or (list ++ batch ∷ []) (length list) [] ≡ batch
-last-one [] batch = refl
-last-one (b ∷ list) batch = last-one list batch
-
-earlier-one : (list : List Batch) (batch : Batch) (i : ℕ) → i < length list → get_or (list ++ batch ∷ []) i [] ≡ get_or list i []
-earlier-one [] batch i less = absurd (omega (arith, less))
-earlier-one (b ∷ list) batch zero less = refl
-earlier-one (b ∷ list) batch (suc i) less = earlier-one list batch i (omega (arith, less))
 
 positive : (n : ℕ) → (n == zero) ≡ false → n - 1 < n
 positive zero off = absurd (let same : (zero == zero) ≡ true = eq-eqb zero zero refl in cc)
@@ -55,7 +47,7 @@ module _ (shape : Shape) (judge : Judge) (c : state.Serving) (batch : Batch) (co
   here = omega arith
 
   batch_is : batch_at more (length list + 1) ≡ batch
-  batch_is = ap (λ i. get_or (list ++ batch ∷ []) i []) here ∙ last-one list batch
+  batch_is = ap (λ i. get_or (list ++ batch ∷ []) i []) here ∙ get_or-append_seam list batch [] []
 
   number_is : (r : ℕ) → r < regions shape → (if touches shape batch r then c.last + 1 else number_at c r) ≡ number_of shape more (length list + 1) r
   number_is r inside =
@@ -71,7 +63,7 @@ module _ (shape : Shape) (judge : Judge) (c : state.Serving) (batch : Batch) (co
 
   contents_is : apply c.contents batch ≡ contents_after more (length list + 1)
   contents_is =
-      ap (λ cs. apply cs batch) counts.contents ∙ sym (fold_batches-more list batch judge.now.origin)
+      ap (λ cs. apply cs batch) counts.contents ∙ sym (fold_batches-one list batch judge.now.origin)
       ∙ ap (fold_batches judge.now.origin) (sym (take_all (length list + 1) (list ++ batch ∷ []) (let n = count in omega (arith, n))))
 
   leader_is : c.leader ≡ leader_before shape more (length list + 1)
@@ -79,7 +71,7 @@ module _ (shape : Shape) (judge : Judge) (c : state.Serving) (batch : Batch) (co
       counts.leads
       ∙ by_test (λ t. (length list == judge.now.base) ≡ t → (if t then 0 else leader_of shape (batch_at judge.now (length list))) ≡ (if t then 0 else leader_of shape (batch_at more (length list))))
       (length list == judge.now.base) (λ _ _. refl)
-      (λ _ off. ap (leader_of shape) (sym (earlier-one list batch (length list - 1) (some off)))) refl
+      (λ _ off. ap (leader_of shape) (sym (get_or_append_left list (batch ∷ []) [] (length list - 1) (some off)))) refl
       ∙ ap (λ k. if k == judge.now.base then 0 else leader_of shape (batch_at more k)) (sym here)
     where
       some : (length list == judge.now.base) ≡ false → length list - 1 < length list

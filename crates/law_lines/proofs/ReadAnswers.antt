@@ -3,9 +3,9 @@ use Rattle.std.proofs.Common.{◌≡◌, ℕ, ◌^◌, ◌<◌, Bool, true, fals
 use Rattle.std.specs.Prelude.{find}
 use Rattle.std.specs.List.{list_any, list_all}
 use Rattle.std.specs.Option.{option_map}
-use Rattle.std.proofs.lemmas.Nat.{pow_pos}
 use Rattle.std.proofs.lemmas.Grind.{flat_map-append}
-use Rattle.std.proofs.Math.Nat.{div-lt_iff_lt-mul}
+use Rattle.std.proofs.lemmas.List.Folds.{list_any-append}
+use Rattle.std.proofs.lemmas.Bool.{and_parts, or_parts}
 use Rattle.salus_types.specs.Volume.{Shape, regions, blocks}
 use Rattle.salus_types.specs.declared.names.NodeName.{NodeName}
 use Rattle.salus_message.specs.declared.replies.Answer.{Answer}
@@ -24,41 +24,38 @@ use Rattle.client_rules.specs.State as state
 use Rattle.client_rules.specs.State.{ignored}
 use Rattle.client_rules.specs.Tables.{line_of, read_questions, head_questions, open_at}
 use Rattle.client_rules.specs.Serving.{read_judged, read_answered}
+use Rattle.list_lemmas.proofs.Tests.{by_test}
+use Rattle.law_lemmas.proofs.Regional.{in_region}
 use Rattle.law_lines.specs.Mirror.{open_of, is_inside}
 use Rattle.law_lines.specs.Mirrors.{Holds}
-use Rattle.law_lines.proofs.Basics.{by_test, list_any-append2}
 use Rattle.law_lines.proofs.Ordered.{questions-split, left-line}
-use Rattle.law_lines.proofs.Counting.{and-step, inside-front}
+use Rattle.law_lines.proofs.Counting.{inside-front}
 use Rattle.law_lines.proofs.Histories.{AgreeOn}
 use Rattle.law_lines.proofs.Committed.{ignored_as_due}
-use Rattle.law_lines.proofs.Hitting.{or-step, is_ours, hits, answer-is, agree-off, agree-unasked}
+use Rattle.law_lines.proofs.Hitting.{is_ours, hits, answer-is, agree-off, agree-unasked}
 use Rattle.law_lines.proofs.Finding.{FoundRead, found-read, find-front, find-none, open-find}
 use Rattle.law_lines.proofs.Numbering.{head-high}
 use Rattle.law_lines.proofs.ReadRows.{after, Row, same-worth, read_judged_as_due}
 
 some_known : (p : Question → Bool) (q : Question) (xs ys : List Question) → list_any p (xs ++ q ∷ ys) ≡ false → p q ≡ false
 some_known p q xs ys none =
-    (or-step (p q) _ (or-step (list_any p xs) _ (sym (list_any-append2 p xs (q ∷ ys)) ∙ none)).1).0
+    (or_parts (p q) _ (or_parts (list_any p xs) _ (sym (list_any-append p xs (q ∷ ys)) ∙ none)).1).0
 
 inside-here : (shape : Shape) (xs ys : List Taken) (r : Taken) → list_all (λ x. is_inside shape x.request) (xs ++ r ∷ ys) ≡ true → is_inside shape r.request ≡ true
-inside-here shape [] ys r all = (and-step (is_inside shape r.request) _ all).0
-inside-here shape (x ∷ xs) ys r all = inside-here shape xs ys r (and-step (is_inside shape x.request) _ all).1
-
--- a block of the volume lies in one of its regions
-pub in_region : (shape : Shape) (b : ℕ) → b < blocks shape → region_of shape b < regions shape
-in_region shape b less = (div-lt_iff_lt-mul (pow_pos shape.height)).1 less
+inside-here shape [] ys r all = (and_parts (is_inside shape r.request) _ all).0
+inside-here shape (x ∷ xs) ys r all = inside-here shape xs ys r (and_parts (is_inside shape x.request) _ all).1
 
 -- the same question is hit alike
 same-hit : (a : Answer) (q o : Question) → same_question q o ≡ true → hits a q ≡ hits a o
 same-hit a q o same =
-    let s = and-step ((q.event == o.event) && (q.number == o.number)) (q.block == o.block) same in
-    let t = and-step (q.event == o.event) (q.number == o.number) s.0 in
+    let s = and_parts ((q.event == o.event) && (q.number == o.number)) (q.block == o.block) same in
+    let t = and_parts (q.event == o.event) (q.number == o.number) s.0 in
     ap₂ (λ x y. (a.read == x) && (a.block == y)) (eqb-true q.number o.number t.1) (eqb-true q.block o.block s.1)
 
 unhit : (a : Answer) (q : Question) (qs : List Question) → list_any (hits a) qs ≡ false → list_any (same_question q) qs ≡ true → hits a q ≡ false
 unhit a q [] none = λ some. absurd (cc)
 unhit a q (o ∷ qs) none =
-    let s = or-step (hits a o) _ none in
+    let s = or_parts (hits a o) _ none in
     by_test (λ t. same_question q o ≡ t → (t || list_any (same_question q) qs) ≡ true → hits a q ≡ false) (same_question q o)
     (λ _ same _. same-hit a q o same ∙ s.0) (λ _ _ some. unhit a q qs s.1 some) refl
 
@@ -83,7 +80,7 @@ module _ (volume : Volume) (events : List Event) (history : List Past) (judge : 
       (is_asked volume.geometry history judge q)
       (λ _ asked. agree-off volume.geometry history judge step name a [] q
       (answer-is volume.geometry judge q name a ∙ ap₂ (λ x y. x && y) ours
-      (unhit a q (rq ++ hq) none (ap (list_any (same_question q)) (sym (questions-split volume.geometry (live history judge))) ∙ (and-step _ _ asked).1))))
+      (unhit a q (rq ++ hq) none (ap (list_any (same_question q)) (sym (questions-split volume.geometry (live history judge))) ∙ (and_parts _ _ asked).1))))
       (λ _ off. agree-unasked volume.geometry history judge step name a [] q off) refl
 
   pub none_as_due : list_any (hits a) (rq ++ hq) ≡ false → Row volume events history judge n m c step name a h ours [] (ignored (state.Serves c))
@@ -96,7 +93,7 @@ module _ (volume : Volume) (events : List Event) (history : List Past) (judge : 
     found_as_due : (o : Option Question) → find (hits a) rq ≡ o
         → Row volume events history judge n m c step name a h ours (due_answer_to volume.geometry events history judge name a o)
         (read_answered volume.geometry c name a (option_map (open_of volume.geometry history) o))
-    found_as_due None is = none_as_due (list_any-append2 (hits a) rq hq ∙ ap₂ (λ x y. x || y) (find-none (hits a) rq is) head_off)
+    found_as_due None is = none_as_due (list_any-append (hits a) rq hq ∙ ap₂ (λ x y. x || y) (find-none (hits a) rq is) head_off)
     found_as_due (Some q) is =
         let shape : Shape = volume.geometry in
         let f : FoundRead a (left_of (live history judge)) q = found-read a (left_of (live history judge)) q is in

@@ -1,6 +1,8 @@
 -- An answer to an open read gives the lines due.
 use Rattle.std.proofs.Common.{◌≡◌, ℕ, ◌+◌, ◌<◌, true, false, not, ◌∙◌, nat_le, if◌then◌else◌, List, [], ◌∷◌, map, Option, refl, ap, ap₂, sym, subst, eq-eqb}
 use Rattle.std.specs.List.{list_any, list_all}
+use Rattle.std.proofs.lemmas.List.Folds.{list_all-append}
+use Rattle.std.proofs.lemmas.Bool.{and_parts}
 use Rattle.salus_types.specs.Volume.{Shape, regions}
 use Rattle.salus_types.specs.declared.names.NodeName.{NodeName}
 use Rattle.salus_types.specs.declared.strike.Strike.{Strike}
@@ -21,11 +23,11 @@ use Rattle.client_rules.specs.State as state
 use Rattle.client_rules.specs.State.{ignored}
 use Rattle.client_rules.specs.Tables.{line_of, read_questions, head_questions, struck, struck_at, worth, claim_of}
 use Rattle.client_rules.specs.Serving.{asked_again, read_ended, read_struck, read_judged}
+use Rattle.list_lemmas.proofs.Tests.{by_test}
+use Rattle.list_lemmas.proofs.Lists.{filter_same, list_any_same}
 use Rattle.law_lines.specs.Mirror.{open_of, MirrorsCounts, MirrorsLine, IsInOrder}
 use Rattle.law_lines.specs.Mirrors.{Holds, AsDue}
-use Rattle.law_lines.proofs.Basics.{by_test, list_all-append2, filter_same, list_any_same}
 use Rattle.law_lines.proofs.Settled.{without, unended-more, unended-twice}
-use Rattle.law_lines.proofs.Counting.{and-step}
 use Rattle.law_lines.proofs.Histories.{past, AreWork, work_lines}
 use Rattle.law_lines.proofs.Keeping.{before-serving, claims-plain}
 use Rattle.law_lines.proofs.Committed.{said-live, said-phase, ignored_as_due}
@@ -64,7 +66,7 @@ module _ (volume : Volume) (events : List Event) (history : List Past) (judge : 
 
   pub asked-parts : (list_all (λ q. is_asked volume.geometry history judge q) rq ≡ true) × (list_all (λ q. is_asked volume.geometry history judge q) hq ≡ true)
   asked-parts =
-      and-step _ _ (sym (list_all-append2 (λ q. is_asked volume.geometry history judge q) rq hq) ∙ all-asked volume.geometry history judge h.mirrors.serves)
+      and_parts _ _ (sym (list_all-append (λ q. is_asked volume.geometry history judge q) rq hq) ∙ all-asked volume.geometry history judge h.mirrors.serves)
 
   -- a strike that is not the last: the table of reads, or that of the head, has it
   module _ (s : Strike) (strikes : verdict_of volume.geometry judge a ≡ Struck s) where

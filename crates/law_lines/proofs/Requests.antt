@@ -2,6 +2,7 @@
 use Rattle.std.proofs.Common.{◌≡◌, ℕ, ◌+◌, ◌-◌, ◌≤◌, true, false, not, ◌∙◌, List, [], ◌∷◌, ◌++◌, map, refl, ap, sym, subst, arith, append-nil}
 use Rattle.std.specs.Prelude.{filter, flat_map, fold}
 use Rattle.std.specs.List.{list_any, list_all}
+use Rattle.std.proofs.lemmas.List.Folds.{list_all-append}
 use Rattle.salus_types.specs.Volume.{Shape}
 use Rattle.schedule_text.specs.declared.schedule.Volume.{Volume}
 use Rattle.schedule_text.specs.declared.schedule.Event.{Event}
@@ -19,9 +20,9 @@ use Rattle.client_rules.specs.State as state
 use Rattle.client_rules.specs.State.{only_lines, ignored}
 use Rattle.client_rules.specs.Tables.{line_of, read_questions, head_questions}
 use Rattle.client_rules.specs.Serving.{after_leaving, leaves, joined}
+use Rattle.list_lemmas.proofs.Tests.{by_test}
 use Rattle.law_lines.specs.Mirror.{Between, open_of, waiter_at, AfterHead, is_inside, IsInOrder, MirrorsLine, MirrorsServing}
 use Rattle.law_lines.specs.Mirrors.{Holds, AsDue}
-use Rattle.law_lines.proofs.Basics.{by_test, list_all-append2}
 use Rattle.law_lines.proofs.Ordered.{between-more, left-line, free-empty, join-blocked}
 use Rattle.law_lines.proofs.Settled.{judged-barriers}
 use Rattle.law_lines.proofs.Moving.{CanLeave, settled_judge, leaving-lines, has_left}
@@ -79,7 +80,7 @@ module _ (volume : Volume) (events : List Event) (history : List Past) (judge : 
     rises = between-more 0 n requests new up h.mirrors.order.rises
 
     all_inside : list_all (λ x. is_inside volume.geometry x.request) (requests ++ new ∷ []) ≡ true
-    all_inside = list_all-append2 (λ x. is_inside volume.geometry x.request) requests (new ∷ []) ∙ rw (inside, h.mirrors.order.inside) refl
+    all_inside = list_all-append (λ x. is_inside volume.geometry x.request) requests (new ∷ []) ∙ rw (inside, h.mirrors.order.inside) refl
 
     -- with these lines the new request is live
     new_live : (due : List Line) → AreWork due → live (next r due) judge ≡ requests ++ new ∷ []

@@ -10,9 +10,10 @@ use Rattle.salus_model.specs.Hearing.{Past, opens, since, phase_of, Serving}
 use Rattle.salus_model.specs.Waiting.{Taken, left_of, all_taken, live, has_ended}
 use Rattle.salus_model.specs.Due.{barrier_due}
 use Rattle.client_rules.specs.State as state
+use Rattle.list_lemmas.proofs.Tests.{by_either}
 use Rattle.law_lines.specs.Mirror.{Between, MirrorsClaims, IsInOrder, MirrorsLine}
 use Rattle.law_lines.specs.Mirrors.{Holds}
-use Rattle.law_lines.proofs.Settled.{without, unended-more, is_due, due_events, ended-answered, dues-below, stays, settled, barrier_due-is, or_cases}
+use Rattle.law_lines.proofs.Settled.{without, unended-more, is_due, due_events, ended-answered, dues-below, stays, settled, barrier_due-is}
 use Rattle.law_lines.proofs.Moving.{settled_judge, HasLeft}
 use Rattle.law_lines.proofs.Keeping.{before-serving}
 use Rattle.law_lines.proofs.Histories.{is_work}
@@ -30,7 +31,7 @@ live-settled history judge requests low n lives b =
 pub ended-settled : (judge : Judge) (requests : List Taken) (low n : ℕ) → Between low requests n → ((v : ℕ) → has_ended judge v ≡ true → v < n)
     → (v : ℕ) → has_ended (settled_judge judge requests) v ≡ true → v < n
 ended-settled judge requests low n b ended v is =
-    or_cases (has_ended judge v) (is_among v (due_events judge (left_of requests))) (v < n)
+    by_either (has_ended judge v) (is_among v (due_events judge (left_of requests))) (v < n)
     (sym (ended-answered judge (due_events judge (left_of requests)) v) ∙ is) (ended v) (dues-below judge low n requests v b)
 
 one_works : (t : Bool) (l : Line) (ls : List Line) → is_work l ≡ true → list_all is_work ls ≡ true → list_all is_work ((if t then l ∷ [] else []) ++ ls) ≡ true

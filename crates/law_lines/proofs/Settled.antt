@@ -2,6 +2,8 @@
 use Rattle.std.proofs.Common.{◌≡◌, ℕ, ◌<◌, ◌≤◌, Bool, true, false, not, cond, ◌&&◌, ◌||◌, ◌==◌, ◌∙◌, nat_le, if◌then◌else◌, List, [], ◌∷◌, ◌++◌, map, refl, ap, sym, arith, append_assoc, append-nil, eq-eqb, eqb-true}
 use Rattle.std.specs.Prelude.{filter, flat_map}
 use Rattle.std.specs.List.{list_any}
+use Rattle.std.proofs.lemmas.List.Folds.{list_any-append}
+use Rattle.std.proofs.lemmas.Bool.{false_from_ne_true}
 use Rattle.schedule_text.specs.declared.schedule.Event.{Event}
 use Rattle.printed_lines.specs.declared.line.Line.{Line}
 use Rattle.printed_lines.specs.declared.line.Line.TheVariants as line
@@ -12,8 +14,8 @@ use Rattle.salus_model.specs.Waiting.{Taken, is_write, is_barrier, left_of, has_
 use Rattle.salus_model.specs.Due.{barrier_due}
 use Rattle.client_rules.specs.State.{Waiter}
 use Rattle.client_rules.specs.Tables.{line_of, is_reached, waiter_line}
+use Rattle.list_lemmas.proofs.Tests.{by_test, or_false, by_either}
 use Rattle.law_lines.specs.Mirror.{Between, waiter_at}
-use Rattle.law_lines.proofs.Basics.{by_test, or_false, list_any-append2}
 use Rattle.law_lines.proofs.Ordered.{free-left, free-filter, between-ends, left_of-free, left_of-line, line_of-free, line_of-line}
 
 -- ---- what has ended
@@ -180,15 +182,7 @@ one_within true u v =
 
 -- an event is among two lists
 pub in_both : (v : ℕ) (xs ys : List ℕ) → is_among v (xs ++ ys) ≡ (is_among v xs || is_among v ys)
-in_both v xs ys = list_any-append2 (λ u. u == v) xs ys
-
-pub or_cases : (a b : Bool) (P : Type 0) → (a || b) ≡ true → (a ≡ true → P) → (b ≡ true → P) → P
-or_cases true b P h left right = left refl
-or_cases false b P h left right = right h
-
-none_among : (t : Bool) → (t ≡ true → ⊥) → t ≡ false
-none_among true never = absurd (never refl)
-none_among false never = refl
+in_both v xs ys = list_any-append (λ u. u == v) xs ys
 
 joined_stays : (t : Bool) (r : Taken) (xs line w : List Taken) → w ≡ xs ++ line → cond (not t) (r ∷ w) w ≡ cond (not t) (r ∷ xs) xs ++ line
 joined_stays true r xs line w same = same
@@ -200,9 +194,9 @@ settled-free : (judge : Judge) (early : List ℕ) (low n : ℕ) (r : Taken) (rs 
     → without (early ++ (due_event judge r ++ due_events judge (left_of rs))) (r ∷ rs)
     ≡ cond (not (is_due judge r)) (r ∷ filter (λ x. not (is_due judge x)) (left_of rs)) (filter (λ x. not (is_due judge x)) (left_of rs)) ++ line_of rs
 settled-free judge early low n r rs before above b rest =
-    let none_early : is_among r.event early ≡ false = none_among (is_among r.event early) (λ hit. let e = before r.event hit in omega (arith, e, above)) in
+    let none_early : is_among r.event early ≡ false = false_from_ne_true (is_among r.event early) (λ hit. let e = before r.event hit in omega (arith, e, above)) in
     let none_late : is_among r.event (due_events judge (left_of rs)) ≡ false =
-    none_among (is_among r.event (due_events judge (left_of rs))) (λ hit. let late = dues-later judge r.event n rs r.event b hit in omega (arith, late)) in
+    false_from_ne_true (is_among r.event (due_events judge (left_of rs))) (λ hit. let late = dues-later judge r.event n rs r.event b hit in omega (arith, late)) in
     let here : is_among r.event (early ++ (due_event judge r ++ due_events judge (left_of rs))) ≡ is_due judge r =
     in_both r.event early (due_event judge r ++ due_events judge (left_of rs))
     ∙ ap (λ t. t || is_among r.event (due_event judge r ++ due_events judge (left_of rs))) none_early
@@ -211,7 +205,7 @@ settled-free judge early low n r rs before above b rest =
     ∙ or_false (is_among r.event (due_event judge r))
     ∙ among_one (is_due judge r) r.event in
     let within : (v : ℕ) → is_among v (early ++ due_event judge r) ≡ true → v ≤ r.event =
-    λ v among. or_cases (is_among v early) (is_among v (due_event judge r)) (v ≤ r.event) (sym (in_both v early (due_event judge r)) ∙ among)
+    λ v among. by_either (is_among v early) (is_among v (due_event judge r)) (v ≤ r.event) (sym (in_both v early (due_event judge r)) ∙ among)
     (λ hit. let e = before v hit in omega (arith, e, above)) (λ hit. one_within (is_due judge r) r.event v hit) in
     let others : without (early ++ (due_event judge r ++ due_events judge (left_of rs))) rs ≡ stays judge rs =
     ap (λ vs. without vs rs) (sym (append_assoc early (due_event judge r) (due_events judge (left_of rs)))) ∙ rest within in

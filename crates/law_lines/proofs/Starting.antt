@@ -21,11 +21,11 @@ use Rattle.salus_model.specs.Answering.{is_known, first_strike}
 use Rattle.salus_model.specs.Due.{past_of, pasts_from, of_event, past_event, sent_after, skip_line, lines_from, lines_due}
 use Rattle.client_rules.specs.Tables.{line_of, claim_of}
 use Rattle.client_rules.specs.Rules.{new_client, client_lines}
+use Rattle.list_lemmas.proofs.Tests.{by_test}
 use Rattle.law_lines.specs.Mirror.{Between}
 use Rattle.law_lines.specs.Mirrors.{Holds}
 use Rattle.law_lines.specs.Ready.{AreReady}
 use Rattle.law_lines.specs.Running.{told_pasts, run_lines}
-use Rattle.law_lines.proofs.Basics.{by_test}
 use Rattle.law_lines.proofs.Openings.{HasNodes}
 use Rattle.law_lines.proofs.Whole.{AllScripted, lines_from_here}
 

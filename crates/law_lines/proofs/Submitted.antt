@@ -3,6 +3,7 @@ use Rattle.std.proofs.Common.{◌≡◌, ℕ, ◌+◌, ◌-◌, ◌<◌, ◌≤�
 use Rattle.std.specs.List.{list_any}
 use Rattle.std.proofs.lemmas.List.{map-append, take_all, drop-append-le}
 use Rattle.std.proofs.lemmas.List.FromFn.{get_or-map-range_with_len}
+use Rattle.std.proofs.Math.Seq.{get_or-append_seam}
 use Rattle.salus_types.specs.Volume.{Shape, regions}
 use Rattle.schedule_text.specs.declared.schedule.Volume.{Volume}
 use Rattle.schedule_text.specs.declared.schedule.Event.{Event}
@@ -10,11 +11,13 @@ use Rattle.schedule_text.specs.declared.schedule.Event.TheVariants as event
 use Rattle.volume_model.specs.Contents.{Batch, apply, fold_batches}
 use Rattle.volume_model.specs.Parts.{Session, touches, leader_of, last_touch}
 use Rattle.salus_model.specs.Judge.{Judge, is_among, event_at, batch_of, last_number, front_of, front_from, submitted}
+use Rattle.salus_model.proofs.Growing.{last_touch-append}
 use Rattle.client_rules.specs.State as state
 use Rattle.client_rules.specs.Tables.{number_at}
 use Rattle.client_rules.specs.Submitting.{with_batch}
+use Rattle.list_lemmas.proofs.Tests.{unequal}
+use Rattle.law_lemmas.proofs.Numbered.{fold_batches-one}
 use Rattle.law_lines.specs.Mirror.{leader_now, MirrorsCounts}
-use Rattle.law_lines.proofs.Basics.{unequal}
 use Rattle.law_lines.proofs.OpenReads.{with_ended, ended-one}
 use Rattle.law_lines.proofs.HeadEnds.{HeadEnds}
 
@@ -47,21 +50,6 @@ fault_ends shape judge v c counts latest front = record {
 
 -- ---- a batch
 
-pub fold_batches-more : (batches : List Batch) (batch : Batch) (contents : List (List ℕ)) → fold_batches contents (batches ++ batch ∷ []) ≡ apply (fold_batches contents batches) batch
-unfolding fold_batches
-fold_batches-more [] batch contents = refl
-fold_batches-more (b ∷ batches) batch contents = fold_batches-more batches batch (apply contents b)
-
-last_touch-more : (shape : Shape) (g : ℕ) (batches : List Batch) (batch : Batch) (last j : ℕ)
-    → last_touch shape g last j (batches ++ batch ∷ []) ≡ (if touches shape batch g then j + length batches else last_touch shape g last j batches)
-unfolding last_touch
-last_touch-more shape g [] batch last j = let same : j ≡ j + 0 = omega arith in ap (λ n. if touches shape batch g then n else last) same
-last_touch-more shape g (b ∷ batches) batch last j =
-    let same : j + 1 + length batches ≡ j + length (b ∷ batches) = omega arith in
-    let now : ℕ = if touches shape b g then j else last in
-    last_touch-more shape g batches batch now (j + 1)
-    ∙ ap (λ n. if touches shape batch g then n else last_touch shape g now (j + 1) batches) same
-
 -- the batches after the base, with one more
 drop-more-one : (base : ℕ) (list : List Batch) (batch : Batch) → base ≤ length list
     → drop base (take (length (list ++ batch ∷ [])) (list ++ batch ∷ [])) ≡ drop base (take (length list) list) ++ batch ∷ []
@@ -78,7 +66,7 @@ number-more shape g base list batch within =
     let count : base + 1 + length (drop base (take (length list) list)) ≡ length list + 1 =
     ap (λ l. base + 1 + length (drop base l)) taken ∙ ap (λ k. base + 1 + k) (length-drop base list) ∙ (omega (arith, within)) in
     ap (last_touch shape g base (base + 1)) (drop-more-one base list batch within)
-    ∙ last_touch-more shape g (drop base (take (length list) list)) batch base (base + 1)
+    ∙ last_touch-append shape g (drop base (take (length list) list)) batch base (base + 1)
     ∙ ap (λ k. if touches shape batch g then k else last_touch shape g base (base + 1) (drop base (take (length list) list))) count
 
 end_last : (t a b c : Bool) → (a || b || (t || c)) ≡ ((a || b || c) || (t || false))
@@ -99,11 +87,6 @@ front-after : (judge : Judge) (s v u : ℕ) → v < u → front_from (record { e
 unfolding front_from
 front-after judge s v u up = ap (λ t. if t then s else front_from judge.submits judge.now.base u) (lt-ltb v u up)
 
--- the last of a list
-last-one : (list : List Batch) (batch : Batch) → get_or (list ++ batch ∷ []) (length list) [] ≡ batch
-last-one [] batch = refl
-last-one (b ∷ list) batch = last-one list batch
-
 -- the leader after one batch more
 leader-more : (shape : Shape) (known : Session) (batch : Batch) → known.base ≤ length known.list → leader_of shape batch ≡ leader_now shape (record known { list = known.list ++ batch ∷ [] })
 leader-more shape known batch based =
@@ -111,7 +94,7 @@ leader-more shape known batch based =
     let place : length known.list + 1 - 1 ≡ length known.list = omega arith in
     sym (ap (λ k. if k == known.base then 0 else leader_of shape (get_or (known.list ++ batch ∷ []) (k - 1) [])) count
     ∙ ap (λ t. if t then 0 else leader_of shape (get_or (known.list ++ batch ∷ []) (length known.list + 1 - 1) [])) (unequal known.base (length known.list + 1) (omega (arith, based)))
-    ∙ ap (λ k. leader_of shape (get_or (known.list ++ batch ∷ []) k [])) place ∙ ap (leader_of shape) (last-one known.list batch))
+    ∙ ap (λ k. leader_of shape (get_or (known.list ++ batch ∷ []) k [])) place ∙ ap (leader_of shape) (get_or-append_seam known.list batch [] []))
 
 pub submit_ends : (volume : Volume) (events : List Event) (judge : Judge) (v : ℕ) (c : state.Serving) (batch : Batch) → event_at events v ≡ Some (event.Write batch)
     → MirrorsCounts volume.geometry judge c → HeadEnds volume.geometry judge (submitted events judge v (last_number judge + 1)) v c (with_batch volume c batch)
@@ -127,7 +110,7 @@ submit_ends volume events judge v c batch at counts =
         session = counts.session;
         last = ap (λ k. k + 1) counts.last ∙ sym more;
         acked = counts.acked;
-        contents = ap (λ cs. apply cs batch) counts.contents ∙ sym (ap (λ l. fold_batches judge.now.origin (list ++ l)) one ∙ fold_batches-more list batch judge.now.origin);
+        contents = ap (λ cs. apply cs batch) counts.contents ∙ sym (ap (λ l. fold_batches judge.now.origin (list ++ l)) one ∙ fold_batches-one list batch judge.now.origin);
         numbers = λ g inside.
             get_or-map-range_with_len (λ r. if touches shape batch r then c.last + 1 else number_at c r) 0 (regions shape) g g 0 inside (omega arith)
             ∙ ap₂ (λ k l. if touches shape batch g then k + 1 else l) counts.last (counts.numbers g inside)

@@ -24,20 +24,13 @@ use Rattle.salus_model.specs.Due.{due_fetching, due_staged}
 use Rattle.client_rules.specs.State as state
 use Rattle.client_rules.specs.State.{ignored, to_all}
 use Rattle.client_rules.specs.Opening.{has_answered, all_answered, with_name, fetched_blocks, staged_from, new_serving, dumped_here, staged_by, staged_here, switched_by, switched_here}
+use Rattle.list_lemmas.proofs.Tests.{by_test, and_false, and_true}
+use Rattle.list_lemmas.proofs.Lists.{list_all_same}
 use Rattle.law_lines.specs.Mirror.{IsBefore}
 use Rattle.law_lines.specs.Mirrors.{Holds, AsDue}
-use Rattle.law_lines.proofs.Basics.{by_test, list_all_same}
 use Rattle.law_lines.proofs.Histories.{past}
 use Rattle.law_lines.proofs.Away.{before-away, news-stages, all-staged-more, fetching-kept, staging-kept, switching-kept}
 use Rattle.law_lines.proofs.Openings.{HasNodes, with-name, staged_as_due, opened_as_due}
-
-and_false : (b : Bool) → (b && false) ≡ false
-and_false true = refl
-and_false false = refl
-
-and_true : (b : Bool) → (b && true) ≡ b
-and_true true = refl
-and_true false = refl
 
 module _ (volume : Volume) (events : List Event) (history : List Past) (judge : Judge) (n m : ℕ) (step : TraceStep) (name : NodeName) (nodes : HasNodes volume.geometry) where
   abbrev Row : Message → List Line → state.Told → Type 0

@@ -13,9 +13,9 @@ use Rattle.salus_model.specs.Due.{past_of, pasts_from}
 use Rattle.client_rules.specs.State as state
 use Rattle.client_rules.specs.Tables.{line_of}
 use Rattle.client_rules.specs.Rules.{told, client_lines}
+use Rattle.list_lemmas.proofs.Tests.{by_test}
 use Rattle.law_lines.specs.Mirrors.{Holds}
 use Rattle.law_lines.specs.Ready.{IsScripted, AsksFit, event_after, session_after, AreReady}
-use Rattle.law_lines.proofs.Basics.{by_test}
 use Rattle.law_lines.proofs.Ordered.{left-line}
 use Rattle.law_lines.proofs.Answered.{IsWritten}
 use Rattle.law_lines.proofs.Openings.{HasNodes}

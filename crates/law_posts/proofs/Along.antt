@@ -1,9 +1,7 @@
 -- Along the trace: at each step what the client posts is tagged, where each choice up to it was right.
-use Rattle.std.proofs.Common.{◌≡◌, ◌∙◌, ℕ, zero, suc, ◌+◌, ◌-◌, ◌^◌, ◌<◌, ◌≤◌, nat_lt, Bool, true, if◌then◌else◌, List, [], ◌∷◌, ◌++◌, take, drop, Option, None, Some, inl, inr, refl, sym, ap, subst, arith}
-use Rattle.std.specs.Prelude.{slice_get, IfSome, Result}
+use Rattle.std.proofs.Common.{◌≡◌, ◌∙◌, ℕ, ◌+◌, ◌^◌, ◌<◌, ◌≤◌, Bool, true, if◌then◌else◌, List, [], ◌∷◌, Option, None, Some, refl, sym, ap, subst, arith}
+use Rattle.std.specs.Prelude.{IfSome, Result}
 use Rattle.std.specs.List.{AllByRecursion}
-use Rattle.std.proofs.lemmas.Bool.{lt-ltb}
-use Rattle.std.proofs.lemmas.Option.{none-some, same_Some}
 use Rattle.salus_types.specs.Volume.{Shape}
 use Rattle.salus_types.specs.declared.records.Record.{Record}
 use Rattle.salus_message.specs.declared.wire.Message.{Message}
@@ -16,7 +14,6 @@ use Rattle.schedule_text.specs.declared.schedule.Volume.{Volume}
 use Rattle.schedule_text.specs.declared.schedule.Event.{Event}
 use Rattle.schedule_text.specs.declared.schedule.Event.TheVariants as event
 use Rattle.printed_lines.specs.declared.line.Line.{Line}
-use Rattle.salus_model.specs.declared.trace.Request.{Request}
 use Rattle.salus_model.specs.declared.trace.Request.TheVariants as request
 use Rattle.salus_model.specs.declared.trace.Handed.{Handed}
 use Rattle.salus_model.specs.declared.trace.Handed.TheVariants as handed
@@ -26,7 +23,7 @@ use Rattle.volume_model.specs.Groups.{is_client}
 use Rattle.salus_model.specs.Judge.{Judge, judged_all}
 use Rattle.salus_model.specs.Following.{Posted, posted_at, sent_by}
 use Rattle.salus_model.specs.Hearing.{News, Asks, Says, Crashes, Silence, Past, news_of, news_in, since, opens, judge_of}
-use Rattle.salus_model.specs.Waiting.{Taken, is_write, all_taken, live}
+use Rattle.salus_model.specs.Waiting.{Taken, all_taken, live}
 use Rattle.salus_model.specs.Due.{past_of, due_news}
 use Rattle.salus_model.specs.Forgery.{IsTagged, records_in, records_of}
 use Rattle.client_rules.specs.State as state
@@ -36,76 +33,37 @@ use Rattle.client_rules.specs.Submitting.{batch_asked}
 use Rattle.client_rules.specs.Rules.{ticked, told, is_tick, client_step, client_letters, posted_letter}
 use Rattle.run_rules.specs.Running.{posts_between}
 use Rattle.run_rules.specs.Serving.{IsClientStep, IsStepOf, ClientSteps}
+use Rattle.list_lemmas.proofs.Members.{among_map, among_flat_map-in, among_all}
+use Rattle.list_lemmas.proofs.Tests.{by_test}
+use Rattle.list_lemmas.proofs.Lists.{among_between}
+use Rattle.list_lemmas.proofs.Each.{all_split}
+use Rattle.law_lemmas.proofs.Settled.{IsSettled, below-wider}
+use Rattle.law_lemmas.proofs.WellSent.{IsWellSent, AreWellSent}
 use Rattle.law_lines.specs.Mirrors.{Holds, AsDue}
 use Rattle.law_lines.specs.Ready.{AsksFit, IsReady, event_after, session_after}
 use Rattle.law_lines.specs.Scheduled.{ChoicesHold}
-use Rattle.law_lines.proofs.Basics.{by_test}
-use Rattle.law_lines.proofs.Answered.{IsWritten}
+use Rattle.law_lines.proofs.Answered.{IsWritten, write_is}
 use Rattle.law_lines.proofs.Openings.{HasNodes}
 use Rattle.law_lines.proofs.Anywhere.{step_as_due}
 use Rattle.law_lines.proofs.Whole.{AllScripted, head_written, next_scripted, small_after}
+use Rattle.law_lines.proofs.Followed.{AreFit}
+use Rattle.law_lines.proofs.Ordered.{head-writes}
 use Rattle.law_history.specs.Choosing.{ChoosesRight, ChoosesRightFrom, ChoseRight}
 use Rattle.law_history.specs.Handing.{records_posted, steps_in, PostsTagged, ClientPostsTagged}
-use Rattle.law_history.proofs.Members.{each_among, among_map, among_flat_map-in}
-use Rattle.law_history.proofs.Settled.{IsSettled, below-wider}
-use Rattle.law_history.proofs.WellSent.{IsWellSent, AreWellSent}
 use Rattle.law_runs.proofs.Choices.{choices_hold}
 use Rattle.law_posts.specs.Spelling.{IsSpellable}
-use Rattle.law_posts.proofs.Fitting.{AreFit}
 use Rattle.law_posts.proofs.Kept.{records_sent, kept, EachTagged, IsTidy, TellsTagged, BegunFits, begun_of}
 use Rattle.law_posts.proofs.Sending.{HeadFits}
 use Rattle.law_posts.proofs.Beginning.{ClientFits, NewsFits, step_tells, tick_tells}
 
 -- ---- lists
 
-among_take : {A : Type 0} (xs : List A) (n i : ℕ) (x : A) → slice_get xs i ≡ Some x → i < n → IsAmong x (take n xs)
-among_take [] n i x at within = absurd (none-some x at)
-among_take (y ∷ xs) zero i x at within = absurd (omega arith)
-among_take (y ∷ xs) (suc n) zero x at within = inl (sym (same_Some y x at))
-among_take (y ∷ xs) (suc n) (suc i) x at within = inr (among_take xs n i x at (omega arith))
-
-got_dropped : {A : Type 0} (b : ℕ) (xs : List A) (i : ℕ) → slice_get (drop b xs) i ≡ slice_get xs (b + i)
-got_dropped zero xs i = ap (λ (n : ℕ). slice_get xs n) (same i) where
-  same : (i : ℕ) → i ≡ zero + i
-  same i = omega arith
-got_dropped (suc b) [] i = refl
-got_dropped (suc b) (x ∷ xs) i = got_dropped b xs i ∙ ap (λ (n : ℕ). slice_get (x ∷ xs) n) (same b i) where
-  same : (b i : ℕ) → suc (b + i) ≡ suc b + i
-  same b i = omega arith
-
--- a message between two counts
-post_between : (posts : List Posted) (before now k : ℕ) (m : Posted) → posted_at posts k ≡ Some m → before < k → k ≤ now → IsAmong m (posts_between posts before now)
-post_between posts before now k m at low high =
-    let positive : nat_lt 0 k ≡ true = lt-ltb 0 k (omega arith) in
-    let there : slice_get posts (k - 1) ≡ Some m = sym (ap (λ (b : Bool). if b then slice_get posts (k - 1) else None) positive) ∙ at in
-    let place : before + (k - 1 - before) ≡ k - 1 = omega arith in
-    among_take (drop before posts) (now - before) (k - 1 - before) m (got_dropped before posts (k - 1 - before) ∙ (ap (λ (n : ℕ). slice_get posts n) place ∙ there)) (omega arith)
-
-all_split : {A : Type 0} (P : A → Type 0) (xs ys : List A) → AllByRecursion P (xs ++ ys) → AllByRecursion P xs × AllByRecursion P ys
-all_split P [] ys all = (tt, all)
-all_split P (x ∷ xs) ys all = let rest = all_split P xs ys all.1 in ((all.0, rest.0), rest.1)
-
 -- ---- the head of the waiting line
-
-line_head : (rs : List Taken) (w : Taken) (behind : List Taken) → line_of rs ≡ w ∷ behind → is_write w.request ≡ true
-unfolding line_of
-line_head [] w behind is = absurd (cc)
-line_head (r ∷ rs) w behind is =
-    by_test (λ t. is_write r.request ≡ t → (if t then r ∷ rs else line_of rs) ≡ w ∷ behind → is_write w.request ≡ true) (is_write r.request)
-    (λ _ hit same. (let head : r ≡ w = cc in ap (λ (x : Taken). is_write x.request) (sym head) ∙ hit))
-    (λ _ miss same. line_head rs w behind same) refl is
-
-write_is : (r : Request) → is_write r ≡ true → (batch : Batch) × (r ≡ request.Write batch)
-write_is (request.Write batch) is = (batch, refl)
-write_is (request.Read b) is = absurd (cc)
-write_is request.Barrier is = absurd (cc)
-write_is (request.Restart e) is = absurd (cc)
-write_is (request.Reassign e g) is = absurd (cc)
 
 head_fits : (events : List Event) (requests line : List Taken) → line ≡ line_of requests → ((w : Taken) (behind : List Taken) → line_of requests ≡ w ∷ behind → IsWritten events w) → HeadFits events line
 head_fits events requests [] is script = tt
 head_fits events requests (w ∷ behind) is script =
-    let write = write_is w.request (line_head requests w behind (sym is)) in
+    let write = write_is w.request (head-writes requests w behind (sym is)) in
     script w behind (sym is) write.0 write.1 ∙ ap (λ (b : Batch). Some (event.Write b)) (sym (ap batch_asked write.1))
 
 -- ---- sessions that are asked for
@@ -252,10 +210,10 @@ module _ (volume : Volume) (events : List Event) (posts : List Posted) (nodes : 
         let own : m.from ≡ t.party = subst (λ (o : Option Posted). IfSome o (λ p. p.from ≡ t.party)) at (well.own k low high) in
         let party : is_client t.party ≡ true = ap is_client (sym own) ∙ from in
         let step : IsClientStep volume posts c (sent_by (steps_in history)) t = subst (λ (b : Bool). IsStepOf b volume posts c (sent_by (steps_in history)) t) party by in
-        let between : IsAmong m (posts_between posts (sent_by (steps_in history)) t.sent) = post_between posts (sent_by (steps_in history)) t.sent k m at low high in
+        let between : IsAmong m (posts_between posts (sent_by (steps_in history)) t.sent) = among_between posts (sent_by (steps_in history)) t.sent k m at low high in
         let l = among_map posted_letter m outs (subst (λ (ls : List Posted). IsAmong m ls) step.messages between) in
         let read : IsAmong rec (records_of (message_at (message_bytes l.0.message))) = subst (λ (q : Posted). IsAmong rec (records_of (message_at q.bytes))) l.2 among in
-        let inside : IsAmong rec (records_in l.0.message) = read_back l.0.message (each_among (λ (x : Letter). IsSpellable x.message) l.0 outs spelled l.1) rec read in
+        let inside : IsAmong rec (records_in l.0.message) = read_back l.0.message (among_all (λ (x : Letter). IsSpellable x.message) outs l.0 l.1 spelled) rec read in
         outs_tagged rec (among_flat_map-in (λ (x : Letter). records_in x.message) l.0 rec outs l.1 inside)
 
     posts_tagged : AllByRecursion (λ (l : Letter). IsSpellable l.message) outs → IsWellSent posts (steps_in history) t → IsStepOf (is_client t.party) volume posts c (sent_by (steps_in history)) t

@@ -33,13 +33,12 @@ use Rattle.client_rules.specs.State as state
 use Rattle.client_rules.specs.State.{Letter, Told, ignored, only_lines, to_all}
 use Rattle.client_rules.specs.Opening.{has_answered, with_name, all_answered, not_answered, new_serving, base_record, stage_letters, staged_from, restarted, with_held, with_reply_of, joined_blocks, chosen, gathered_all, gathered_here, fetched_blocks, dumped_here, staged_by, staged_here, switched_by, switched_here}
 use Rattle.client_rules.specs.Rules.{requested_away, requested, told_gathering, told_fetching, told_staging, told_switching, received, ticked, told}
+use Rattle.list_lemmas.proofs.Members.{among_map, among_flat_map, among_flat_map-in, among_filter, among_range}
+use Rattle.list_lemmas.proofs.Tests.{by_test, unequal_up}
+use Rattle.law_lemmas.proofs.Settled.{IsBelow, IsSettled, now-known, not_known, stage-settled, open-settled, settled-wider}
 use Rattle.law_lines.specs.Mirror.{MirrorsCounts}
 use Rattle.law_lines.specs.Mirrors.{MirrorsKnown}
-use Rattle.law_lines.proofs.Basics.{by_test, unequal_up}
 use Rattle.law_lines.proofs.Parted.{base-is}
-use Rattle.law_history.proofs.Members.{among_map, among_flat_map, among_flat_map-in, among_filter}
-use Rattle.law_history.proofs.Chosen.{among_range}
-use Rattle.law_history.proofs.Settled.{IsBelow, IsSettled, now-known, not_known, stage-settled, open-settled, settled-wider}
 use Rattle.law_posts.proofs.Kept.{records_sent, kept, EachTagged, HaveNone, none_sent, none_to, OpensNew, IsTidy, TellsTagged, BegunFits, ArePlain, quiet_tells}
 use Rattle.law_posts.proofs.Sending.{OpensFor, HeadFits, letter_to, only_one, requested_tells, serving_tells, serving_ticks}
 

@@ -1,5 +1,5 @@
 -- What a client keeps to send it again, and that it stays tagged.
-use Rattle.std.proofs.Common.{◌≡◌, ℕ, ◌≤◌, ◌∙◌, List, [], ◌∷◌, ◌++◌, flat_map, refl, ap, sym, subst, append-nil, append_assoc}
+use Rattle.std.proofs.Common.{◌≡◌, ℕ, ◌≤◌, ◌∙◌, List, [], ◌∷◌, ◌++◌, flat_map, refl, ap, subst}
 use Rattle.std.specs.List.{AllByRecursion}
 use Rattle.salus_types.specs.declared.names.NodeName.{NodeName}
 use Rattle.salus_types.specs.declared.records.Record.{Record}
@@ -14,11 +14,10 @@ use Rattle.salus_model.specs.Hearing.{Past}
 use Rattle.salus_model.specs.Forgery.{IsTagged, records_in}
 use Rattle.client_rules.specs.State as state
 use Rattle.client_rules.specs.State.{Letter, Unacked, to_all}
-use Rattle.replica_rules.proofs.Lists.{all_map, all_each}
+use Rattle.list_lemmas.proofs.Each.{all_map, all_each}
+use Rattle.law_lemmas.proofs.Growing.{IsGoing, going-grows, tagged-grows, going_still, going_on}
+use Rattle.law_lemmas.proofs.Settled.{IsBelow, IsSettled, going-below, going-settled, settled-wider}
 use Rattle.law_lines.specs.Mirrors.{MirrorsKnown, Holds}
-use Rattle.law_history.proofs.Fairly.{extended, IsGoing}
-use Rattle.law_history.proofs.Growing.{going-grows, tagged-grows}
-use Rattle.law_history.proofs.Settled.{IsBelow, IsSettled, going-below, going-settled, settled-wider}
 
 -- ---- what is kept, and what is sent
 
@@ -91,21 +90,6 @@ IsPlain other = Unit {0}
 
 abbrev pub ArePlain : List Line → Type 0
 ArePlain lines = AllByRecursion IsPlain lines
-
-going_still : (before after : Judge) → after.now ≡ before.now → after.others ≡ before.others → after.staged ≡ before.staged → after.opened ≡ before.opened → IsGoing before after
-going_still before after now others staged opened =
-    record { more = []; now = now ∙ ap (λ l. record before.now { list = l }) (sym (append-nil before.now.list)); others = others; staged = staged; opened = opened }
-
-going_on : (a b c : Judge) → IsGoing a b → IsGoing b c → IsGoing a c
-going_on a b c first second = record {
-  more = first.more ++ second.more;
-  now = second.now
-      ∙ (ap (λ k. extended k second.more) first.now
-      ∙ ap (λ l. record a.now { list = l }) (append_assoc a.now.list first.more second.more));
-  others = second.others ∙ first.others;
-  staged = second.staged ∙ first.staged;
-  opened = second.opened ∙ first.opened;
-}
 
 module _ (events : List Event) where
   going_line : (judge : Judge) (l : Line) → IsPlain l → IsGoing judge (judged events judge l)

@@ -1,4 +1,3 @@
-mod Fitting
 mod Kept
 mod Sending
 mod Beginning

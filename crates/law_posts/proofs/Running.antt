@@ -9,14 +9,14 @@ use Rattle.salus_model.specs.Hearing.{since}
 use Rattle.salus_model.specs.Waiting.{all_taken}
 use Rattle.client_rules.specs.Rules.{new_client}
 use Rattle.run_rules.specs.Serving.{ClientByRules}
+use Rattle.law_lemmas.proofs.Settled.{start_settled}
+use Rattle.law_lemmas.proofs.WellSent.{well_sent}
 use Rattle.law_lines.proofs.Starting.{start_holds, has_nodes}
 use Rattle.law_lines.proofs.Whole.{AllScripted}
+use Rattle.law_lines.proofs.Scripted.{fits_schedule}
 use Rattle.law_history.specs.Handing.{ClientPostsTagged}
-use Rattle.law_history.proofs.Starting.{start_settled}
-use Rattle.law_history.proofs.WellSent.{well_sent}
 use Rattle.law_runs.proofs.Rising.{sessions_rise}
 use Rattle.law_posts.specs.Spelling.{AllSpellable}
-use Rattle.law_posts.proofs.Fitting.{fits_schedule}
 use Rattle.law_posts.proofs.Along.{IsAlong, along_tagged}
 
 first_along : (volume : Volume) (events : List Event) (posts : List Posted) (many : 1 ≤ volume.geometry.replicas) → IsAlong volume events posts (has_nodes volume.geometry many) [] 1 1 (new_client volume.geometry)
@@ -34,5 +34,5 @@ client_tags volume events posts trace limits follows spelled by =
     let few = limits.few in
     let many = limits.volume.small_groups.0 in
     along_tagged volume events posts (has_nodes volume.geometry many) trace [] 1 1 (new_client volume.geometry)
-    (fits_schedule volume events posts trace (omega (arith, few)) (sessions_rise events 1 2 (omega arith) limits.rising) follows) by (well_sent posts events [] [] 1 trace follows) spelled
+    (fits_schedule events posts trace (omega (arith, few)) (sessions_rise events 1 2 (omega arith) limits.rising) follows) by (well_sent posts events [] [] 1 trace follows) spelled
     (λ chose. first_along volume events posts many)

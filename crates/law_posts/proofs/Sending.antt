@@ -1,6 +1,7 @@
 -- What a serving client sends is tagged, and what it keeps.
 use Rattle.std.proofs.Common.{◌≡◌, ◌⊎◌, ℕ, ◌+◌, ◌-◌, ◌^◌, ◌<◌, ◌≤◌, ◌∙◌, not, ◌&&◌, ◌==◌, nat_lt, if◌then◌else◌, List, [], ◌∷◌, ◌++◌, map, flat_map, length, get_or, Option, None, Some, inl, inr, refl, ap, sym, subst, arith, length-append}
 use Rattle.std.specs.Prelude.{cond}
+use Rattle.std.proofs.Math.Seq.{get_or-append_seam}
 use Rattle.salus_types.specs.Volume.{Shape, regions}
 use Rattle.salus_types.specs.declared.names.NodeName.{NodeName}
 use Rattle.salus_types.specs.declared.records.Record.{Record}
@@ -30,13 +31,12 @@ use Rattle.client_rules.specs.Tables.{open_at, closed_at, struck, struck_at, wor
 use Rattle.client_rules.specs.Submitting.{batch_asked, next_part, next_parts, part_letters, with_batch}
 use Rattle.client_rules.specs.Serving.{after_leaving, leaves, refusal_here, joined, fetches, accepted, decided, requested_here, asked_again, read_ended, read_judged, read_answered, head_faulted, submits, head_known, head_judged, head_answered, answered_here, Acked, acked_one, acked_lines, acks, claimed, acked_told, committed_here, ticked_here}
 use Rattle.client_rules.specs.Rules.{told_serving}
-use Rattle.replica_rules.proofs.Lists.{all_both, all_map, all_each, all_flat}
+use Rattle.list_lemmas.proofs.Members.{among_map, among_flat_map, among_flat_map-in, among_filter, among_range, among_all}
+use Rattle.list_lemmas.proofs.Tests.{by_test}
+use Rattle.list_lemmas.proofs.Each.{all_both, all_map, all_each, all_flat}
+use Rattle.law_lemmas.proofs.Settled.{IsBelow, IsSettled, now-known, going-settled}
 use Rattle.law_lines.specs.Mirror.{MirrorsCounts}
-use Rattle.law_lines.proofs.Basics.{by_test}
 use Rattle.law_lines.proofs.Parted.{part-is}
-use Rattle.law_history.proofs.Members.{each_among, among_map, among_flat_map, among_flat_map-in, among_filter}
-use Rattle.law_history.proofs.Chosen.{among_range}
-use Rattle.law_history.proofs.Settled.{IsBelow, IsSettled, now-known, going-settled}
 use Rattle.law_posts.proofs.Kept.{records_sent, parts_of, kept, EachTagged, HaveNone, none_to, IsTidy, TellsTagged, ArePlain, IsPlain, plain_keeps, plain_going, plain_tells, quiet_tells}
 
 -- ---- lines and letters of the tables
@@ -92,13 +92,8 @@ acks_plain shape (u ∷ us) c =
 
 -- ---- a batch is submitted
 
--- the last of a list
-last-one : (list : List Batch) (batch : Batch) → get_or (list ++ batch ∷ []) (length list) [] ≡ batch
-last-one [] batch = refl
-last-one (b ∷ list) batch = last-one list batch
-
 batch_last : (list : List Batch) (batch : Batch) → get_or (list ++ batch ∷ []) (length list + 1 - 1) [] ≡ batch
-batch_last list batch = let place : length list + 1 - 1 ≡ length list = omega arith in ap (λ i. get_or (list ++ batch ∷ []) i []) place ∙ last-one list batch
+batch_last list batch = let place : length list + 1 - 1 ≡ length list = omega arith in ap (λ i. get_or (list ++ batch ∷ []) i []) place ∙ get_or-append_seam list batch [] []
 
 module _ (volume : Volume) (events : List Event) (judge : Judge) (c : state.Serving) (counts : MirrorsCounts volume.geometry judge c) (v s : ℕ) (batch : Batch)
     (asked : event_at events v ≡ Some (event.Write batch)) where
@@ -167,7 +162,7 @@ part_sent shape parts rec among =
 no_record : (letters : List Letter) (rec : Record) → HaveNone letters → IsAmong rec (records_sent letters) → ⊥
 no_record letters rec none among =
     let l = among_flat_map (λ (x : Letter). records_in x.message) rec letters among in
-    let empty : records_in l.0.message ≡ [] = each_among (λ (x : Letter). records_in x.message ≡ []) l.0 letters none l.1 in
+    let empty : records_in l.0.message ≡ [] = among_all (λ (x : Letter). records_in x.message ≡ []) letters l.0 l.1 none in
     absurd (subst (λ (rs : List Record). IsAmong rec rs) empty l.2)
 
 -- ---- a step of a serving client

@@ -1,5 +1,5 @@
 -- Sessions that rise by the schedule's text rise as the law of lines asks.
-use Rattle.std.proofs.Common.{ℕ, ◌+◌, ◌<◌, ◌≤◌, List, [], ◌∷◌, arith}
+use Rattle.std.proofs.Common.{ℕ, ◌+◌, ◌≤◌, List, [], ◌∷◌, arith}
 use Rattle.schedule_text.specs.declared.schedule.Event.{Event}
 use Rattle.schedule_text.specs.declared.schedule.Event.TheVariants as event
 use Rattle.schedule_text.specs.Grammar.{RisesFrom, sessions_of}

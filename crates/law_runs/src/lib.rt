@@ -15,7 +15,7 @@ ghost use Rattle.salus_model.specs.Seen.{NoCollision};
 ghost use Rattle.run_rules.specs.Running.{NodesByRules, formatted};
 ghost use Rattle.law_history.specs.Handing.{ClientPostsTagged, NodesShowHanded};
 ghost use Rattle.law_lines.specs.Running.{run_lines};
-ghost use Rattle.law_shown.specs.Reading.{AllAddressed, AllHandBytes};
+ghost use Rattle.law_shown.specs.Reading.{AllAddressed, AllHandSpelled};
 
 /// Does nothing: its clauses are the law. Where no two different strings seen share a digest and no tag is forged, the lines
 /// of the client's rules are those that are due, and they are a legal history: if what nodes show was handed to them and
@@ -36,7 +36,7 @@ pub fn runs_are_legal()
         → Follows events posts trace
         → NoCollision volume events posts trace
         → NoForgery volume events posts trace
-        → AllHandBytes posts trace
+        → AllHandSpelled posts trace
         → AllAddressed volume.geometry trace
         → NodesByRules volume.geometry (formatted volume) posts trace
         → ClientPostsTagged volume events posts [] trace

@@ -1,8 +1,7 @@
 -- Along the trace: each record that a step shows as held was handed to its node before, or is formatted.
-use Rattle.std.proofs.Common.{◌≡◌, ◌∙◌, ◌⊎◌, inl, inr, ⊎_elim, ℕ, zero, suc, ◌+◌, ◌-◌, ◌<◌, ◌≤◌, nat_lt, Bool, true, if◌then◌else◌, List, [], ◌∷◌, ◌++◌, map, take, drop, Option, None, Some, refl, sym, ap, subst, arith, append_assoc}
-use Rattle.std.specs.Prelude.{slice_get, IfSome}
-use Rattle.std.proofs.lemmas.Bool.{eq-eqb, lt-ltb}
-use Rattle.std.proofs.lemmas.Option.{none-some, same_Some}
+use Rattle.std.proofs.Common.{◌≡◌, ◌∙◌, ◌⊎◌, inl, inr, ⊎_elim, ℕ, ◌<◌, ◌≤◌, Bool, true, List, [], ◌∷◌, ◌++◌, Option, None, Some, refl, sym, ap, subst, append_assoc}
+use Rattle.std.specs.Prelude.{IfSome}
+use Rattle.std.proofs.lemmas.Bool.{eq-eqb}
 use Rattle.salus_types.specs.Volume.{Shape, regions, IsVolume}
 use Rattle.salus_types.specs.declared.names.NodeName.{NodeName}
 use Rattle.salus_types.specs.declared.names.Sender.{Sender}
@@ -23,52 +22,26 @@ use Rattle.salus_model.specs.Following.{Posted, posted_at, sent_by, Follows}
 use Rattle.salus_model.specs.Hearing.{Says, news_of_message, news_from, news_of_post}
 use Rattle.salus_model.specs.Licences.{letters_to}
 use Rattle.replica_rules.specs.Rules.{Sending}
-use Rattle.replica_rules.proofs.Lists.{all_both}
-use Rattle.replica_rules.proofs.Elements.{among_all}
 use Rattle.run_rules.specs.Knowing.{KnownNode, fresh, outs_to}
 use Rattle.run_rules.specs.Running.{posts_between, addresses, after, known_of, IsNodeStep, IsStepOf, AllSteps, NodesByRules, formatted}
+use Rattle.list_lemmas.proofs.Lists.{among_between}
+use Rattle.list_lemmas.proofs.Members.{among_map, among_all}
+use Rattle.list_lemmas.proofs.Each.{all_both}
+use Rattle.law_lemmas.proofs.WellSent.{IsWellSent, AreWellSent, well_sent}
 use Rattle.law_history.specs.Showing.{records_shown}
 use Rattle.law_history.specs.Handing.{WasHanded, IsFormatted, ShowsHanded, NodesShowHanded}
-use Rattle.law_history.proofs.WellSent.{IsWellSent, AreWellSent, well_sent}
 use Rattle.law_handed.specs.Bringing.{records_held, HasOrigin, TellsWhatWasHanded}
 use Rattle.law_handed.specs.Fitting.{ShowsFitting}
 use Rattle.law_handed.proofs.Origins.{gathered_was_handed}
 use Rattle.law_handed.proofs.Ranged.{shown_fits}
-use Rattle.law_shown.specs.Reading.{HandsBytes, AllHandBytes, AllAddressed}
+use Rattle.law_shown.specs.Reading.{HandsSpelled, AllHandSpelled, AllAddressed}
 use Rattle.law_shown.proofs.Rereading.{shown_again}
 use Rattle.law_shown.proofs.Formatting.{formatted_fits}
 use Rattle.law_shown.proofs.Bringing.{all_spelled, brought_in}
 
 -- ---- lists
 
-among_take : {A : Type 0} (xs : List A) (n i : ℕ) (x : A) → slice_get xs i ≡ Some x → i < n → IsAmong x (take n xs)
-among_take [] n i x at within = absurd (none-some x at)
-among_take (y ∷ xs) zero i x at within = absurd (omega arith)
-among_take (y ∷ xs) (suc n) zero x at within = inl (sym (same_Some y x at))
-among_take (y ∷ xs) (suc n) (suc i) x at within = inr (among_take xs n i x at (omega arith))
-
-got_dropped : {A : Type 0} (b : ℕ) (xs : List A) (i : ℕ) → slice_get (drop b xs) i ≡ slice_get xs (b + i)
-got_dropped zero xs i = ap (λ (n : ℕ). slice_get xs n) (same i) where
-  same : (i : ℕ) → i ≡ zero + i
-  same i = omega arith
-got_dropped (suc b) [] i = refl
-got_dropped (suc b) (x ∷ xs) i = got_dropped b xs i ∙ ap (λ (n : ℕ). slice_get (x ∷ xs) n) (same b i) where
-  same : (b i : ℕ) → suc (b + i) ≡ suc b + i
-  same b i = omega arith
-
-from_map : {A B : Type 0} (f : A → B) (xs : List A) (y : B) → IsAmong y (map f xs) → (x : A) × IsAmong x xs × (y ≡ f x)
-from_map f [] y at = absurd at
-from_map f (x ∷ xs) y (inl e) = (x, inl refl, e)
-from_map f (x ∷ xs) y (inr at) = let more = from_map f xs y at in (more.0, inr more.1, more.2)
-
 -- ---- a message between two counts
-
-post_between : (posts : List Posted) (before now k : ℕ) (m : Posted) → posted_at posts k ≡ Some m → before < k → k ≤ now → IsAmong m (posts_between posts before now)
-post_between posts before now k m at low high =
-    let positive : nat_lt 0 k ≡ true = lt-ltb 0 k (omega arith) in
-    let there : slice_get posts (k - 1) ≡ Some m = sym (ap (λ (b : Bool). if b then slice_get posts (k - 1) else None) positive) ∙ at in
-    let place : before + (k - 1 - before) ≡ k - 1 = omega arith in
-    among_take (drop before posts) (now - before) (k - 1 - before) m (got_dropped before posts (k - 1 - before) ∙ (ap (λ (n : ℕ). slice_get posts n) place ∙ there)) (omega arith)
 
 -- ---- a front part of a node's steps
 
@@ -103,7 +76,7 @@ module _ (volume : Volume) (posts : List Posted) (limits : IsVolume volume.geome
   record IsPast (done earlier : List TraceStep) : Type 0 where
     pub count : sent_by earlier ≡ last_sent 0 done
     pub inside : (x : TraceStep) → IsAmong x done → IsAmong x earlier
-    pub bytes : AllHandBytes posts done
+    pub given : AllHandSpelled posts done
 
   -- what is held has its origin in what was handed over
   origin : (name : NodeName) (t : TraceStep) (done earlier : List TraceStep) (rec : Record) → IsPast done earlier → name.region < regions volume.geometry
@@ -145,13 +118,13 @@ module _ (volume : Volume) (posts : List Posted) (limits : IsVolume volume.geome
       let front : AllSteps shape posts name (fresh shape name.region first) 0 done = front_steps shape posts name (fresh shape name.region first) 0 done (t ∷ steps) right in
       let own : addresses name t ≡ true = ap (λ (p : Sender). same_party p (sender.Node name)) party ∙ same_name name in
       let step : IsNodeStep shape posts name known (last_sent 0 done) t = first_step shape posts name known (last_sent 0 done) t steps (back_steps shape posts name (fresh shape name.region first) 0 done (t ∷ steps) right) own in
-      let between : IsAmong m (posts_between posts (last_sent 0 done) t.sent) = post_between posts (last_sent 0 done) t.sent k m at (subst (λ (n : ℕ). n < k) past.count low) high in
-      let from = from_map {A = Sending} {B = Posted} (λ out. record { from = sender.Node name; to = out.to; bytes = message_bytes out.message }) outs m (subst (λ (l : List Posted). IsAmong m l) step.messages between) in
+      let between : IsAmong m (posts_between posts (last_sent 0 done) t.sent) = among_between posts (last_sent 0 done) t.sent k m at (subst (λ (n : ℕ). n < k) past.count low) high in
+      let from = among_map {A = Sending} {B = Posted} (λ out. record { from = sender.Node name; to = out.to; bytes = message_bytes out.message }) m outs (subst (λ (l : List Posted). IsAmong m l) step.messages between) in
       let out : Sending = from.0 in
       let tells : TellsWhatWasHanded first (letters_to posts name done) out.message =
       among_all (λ o. TellsWhatWasHanded first (letters_to posts name done) o.message) outs out from.1 (gathered_was_handed first shape posts name done front t.handed t.failed) in
       let fits : ShowsFitting shape out.message =
-      among_all (λ o. ShowsFitting shape o.message) outs out from.1 (shown_fits shape posts name first done front (formatted_fits volume name limits inside) (all_spelled posts name done past.bytes) t.handed t.failed) in
+      among_all (λ o. ShowsFitting shape o.message) outs out from.1 (shown_fits shape posts name first done front (formatted_fits volume name limits inside) (all_spelled posts name done past.given) t.handed t.failed) in
       let read : IsAmong rec (records_shown (news_of_message name (message_at (message_bytes out.message)))) = subst (λ (p : Posted). IsAmong rec (records_shown (news_from p.from p.bytes))) from.2 among in
       let shown : IsAmong rec (records_shown (Says name out.message)) = subst (λ (l : List Record). IsAmong rec l) (shown_again name shape limits out.message fits) read in
       origin name t done earlier rec past inside (told_origin name done out.message rec tells shown)
@@ -177,11 +150,11 @@ module _ (volume : Volume) (posts : List Posted) (limits : IsVolume volume.geome
       → NodesByRules volume.geometry (formatted volume) posts (done ++ t ∷ steps) → IsWellSent posts earlier t → ShowsHanded volume posts earlier t
   shows t done earlier steps past of right sent = λ k rec low high among genuine. step_shows t.party t done earlier steps past refl of right sent k rec (posted_at posts k) refl low high among
 
-  past_more : (t : TraceStep) (done earlier : List TraceStep) → HandsBytes posts t.handed → IsPast done earlier → IsPast (done ++ t ∷ []) (t ∷ earlier)
-  past_more t done earlier bytes past = record {
+  past_more : (t : TraceStep) (done earlier : List TraceStep) → HandsSpelled posts t.handed → IsPast done earlier → IsPast (done ++ t ∷ []) (t ∷ earlier)
+  past_more t done earlier given past = record {
     count = sym (last_more 0 done t);
     inside = λ x at. inside_more x at;
-    bytes = all_both (λ s. HandsBytes posts s.handed) done (t ∷ []) past.bytes (bytes, tt);
+    given = all_both (λ s. HandsSpelled posts s.handed) done (t ∷ []) past.given (given, tt);
   } where
     either : (x : TraceStep) (xs : List TraceStep) → IsAmong x (xs ++ t ∷ []) → (x ≡ t) ⊎ IsAmong x xs
     either x [] (inl e) = inl e
@@ -192,19 +165,19 @@ module _ (volume : Volume) (posts : List Posted) (limits : IsVolume volume.geome
     inside_more : (x : TraceStep) → IsAmong x (done ++ t ∷ []) → IsAmong x (t ∷ earlier)
     inside_more x at = ⊎_elim (λ (e : x ≡ t). inl e) (λ (m : IsAmong x done). inr (past.inside x m)) (either x done at)
 
-  all_show : (steps done earlier : List TraceStep) → IsPast done earlier → AllHandBytes posts steps → AllAddressed volume.geometry steps → AreWellSent posts earlier steps
+  all_show : (steps done earlier : List TraceStep) → IsPast done earlier → AllHandSpelled posts steps → AllAddressed volume.geometry steps → AreWellSent posts earlier steps
       → NodesByRules volume.geometry (formatted volume) posts (done ++ steps) → NodesShowHanded volume posts earlier steps
   unfolding AreWellSent NodesShowHanded
-  all_show [] done earlier past bytes of sent right = tt
-  all_show (t ∷ steps) done earlier past bytes of sent right =
+  all_show [] done earlier past given of sent right = tt
+  all_show (t ∷ steps) done earlier past given of sent right =
       let whole : (done ++ t ∷ []) ++ steps ≡ done ++ t ∷ steps = append_assoc done (t ∷ []) steps in (
         shows t done earlier steps past of.0 right sent.0,
-        all_show steps (done ++ t ∷ []) (t ∷ earlier) (past_more t done earlier bytes.0 past) bytes.1 of.1 sent.1
+        all_show steps (done ++ t ∷ []) (t ∷ earlier) (past_more t done earlier given.0 past) given.1 of.1 sent.1
             (subst (λ (l : List TraceStep). NodesByRules volume.geometry (formatted volume) posts l) (sym whole) right),
       )
 
-pub nodes_show : (volume : Volume) (events : List Event) (posts : List Posted) (trace : List TraceStep) → IsVolume volume.geometry → Follows events posts trace → AllHandBytes posts trace
+pub nodes_show : (volume : Volume) (events : List Event) (posts : List Posted) (trace : List TraceStep) → IsVolume volume.geometry → Follows events posts trace → AllHandSpelled posts trace
     → AllAddressed volume.geometry trace → NodesByRules volume.geometry (formatted volume) posts trace → NodesShowHanded volume posts [] trace
 unfolding last_sent
-nodes_show volume events posts trace limits follows bytes of right =
-    all_show volume posts limits trace [] [] (record { count = refl; inside = λ x nothing. absurd nothing; bytes = tt }) bytes of (well_sent posts events [] [] 1 trace follows) right
+nodes_show volume events posts trace limits follows given of right =
+    all_show volume posts limits trace [] [] (record { count = refl; inside = λ x nothing. absurd nothing; given = tt }) given of (well_sent posts events [] [] 1 trace follows) right

@@ -1,6 +1,6 @@
 -- What a formatted node of the volume holds fits.
-use Rattle.std.proofs.Common.{◌≡◌, ℕ, zero, suc, ◌+◌, ◌*◌, ◌^◌, ◌<◌, ◌≤◌, ◌==◌, ◌&&◌, Bool, true, false, List, [], ◌∷◌, length, take, drop, replicate, refl, arith}
-use Rattle.std.specs.List.{AllByRecursion, list_all, range_with_len}
+use Rattle.std.proofs.Common.{◌≡◌, ℕ, zero, suc, ◌*◌, ◌^◌, ◌<◌, ◌≤◌, ◌==◌, true, List, length, drop, replicate, refl, arith}
+use Rattle.std.specs.List.{list_all}
 use Rattle.std.proofs.lemmas.Bool.{eq-eqb}
 use Rattle.std.proofs.lemmas.List.{length-replicate}
 use Rattle.std.proofs.lemmas.List.FromFn.{length-range_with_len}
@@ -21,46 +21,18 @@ use Rattle.holding_model.specs.Fitting.{has_shape}
 use Rattle.volume_model.specs.Contents.{zero_contents, fold_batches, blocks_in, volume_top}
 use Rattle.volume_model.specs.Parts.{Session, contents_after, base_header, base_of}
 use Rattle.run_rules.specs.Running.{new_session, formatted}
-use Rattle.law_history.proofs.Regional.{length-blocks_in}
+use Rattle.list_lemmas.proofs.Each.{each_replicate, each_below}
+use Rattle.list_lemmas.proofs.Lists.{all_take, all_drop, all_replicate}
+use Rattle.law_lemmas.proofs.Regional.{length-blocks_in}
 use Rattle.law_handed.specs.Fitting.{IsSpelled, HeldFits, IsShaped}
-
--- ---- lists
-
-all_take : {A : Type 0} (test : A → Bool) (n : ℕ) (xs : List A) → list_all test xs ≡ true → list_all test (take n xs) ≡ true
-all_take test zero xs all = refl
-all_take test (suc n) [] all = refl
-all_take test (suc n) (x ∷ xs) all = both (test x) (list_all test xs) (list_all test (take n xs)) all (all_take test n xs) where
-  both : (a b c : Bool) → (a && b) ≡ true → (b ≡ true → c ≡ true) → (a && c) ≡ true
-  both true b c e f = f e
-  both false b c e f = absurd (cc)
-
-all_drop : {A : Type 0} (test : A → Bool) (n : ℕ) (xs : List A) → list_all test xs ≡ true → list_all test (drop n xs) ≡ true
-all_drop test zero xs all = all
-all_drop test (suc n) [] all = refl
-all_drop test (suc n) (x ∷ xs) all = all_drop test n xs (rest (test x) (list_all test xs) all) where
-  rest : (a b : Bool) → (a && b) ≡ true → b ≡ true
-  rest true b e = e
-  rest false b e = absurd (cc)
-
-all_replicate : {A : Type 0} (test : A → Bool) (n : ℕ) (x : A) → test x ≡ true → list_all test (replicate n x) ≡ true
-all_replicate test zero x e = refl
-all_replicate test (suc n) x e = rw e (all_replicate test n x e)
-
-each_replicate : {A : Type 0} (P : A → Type 0) (n : ℕ) (x : A) → P x → AllByRecursion P (replicate n x)
-each_replicate P zero x p = tt
-each_replicate P (suc n) x p = (p, each_replicate P n x p)
-
-each_below : (top a n : ℕ) → a + n ≤ top → AllByRecursion (λ i. i < top) (range_with_len a n)
-each_below top a zero le = tt
-each_below top a (suc n) le = (omega arith, each_below top (a + 1) n (omega arith))
 
 -- ---- digests
 
-long_tag : (key : List ℕ) (rec : Record) → length (tag_of key rec) ≡ 32
+pub long_tag : (key : List ℕ) (rec : Record) → length (tag_of key rec) ≡ 32
 unfolding hmac
 long_tag key rec = length-sha256 _
 
-long_top : (shape : Shape) (contents : List (List ℕ)) (k : ℕ) → shape.regions_log ≡ k → length (volume_top shape contents) ≡ 32
+pub long_top : (shape : Shape) (contents : List (List ℕ)) (k : ℕ) → shape.regions_log ≡ k → length (volume_top shape contents) ≡ 32
 unfolding top_of
 long_top shape contents zero same =
     rw same (length-root_of shape.height (blocks_in shape contents 0))

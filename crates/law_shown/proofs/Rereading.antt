@@ -38,8 +38,8 @@ use Rattle.salus_message.proofs.MessageLaws.{message_again}
 use Rattle.salus_model.specs.Hearing.{Says, news_of_message}
 use Rattle.holding_model.specs.Fitting.{has_shape}
 use Rattle.replica_rules.specs.Rules.{is_carried}
-use Rattle.replica_rules.proofs.Lists.{all_then}
-use Rattle.replica_rules.proofs.Elements.{and_left, and_right}
+use Rattle.list_lemmas.proofs.Each.{all_then}
+use Rattle.list_lemmas.proofs.Tests.{and_left, and_right}
 use Rattle.law_history.specs.Showing.{records_shown}
 use Rattle.law_handed.specs.Fitting.{IsSpelled, PartFits, BaseFits, HeldFits, IsShaped, IsShownWhole, ShowsFitting}
 
@@ -83,27 +83,30 @@ same_text m x y first second =
     ap (λ (l : List ℕ). l ++ (be8 m.held.session ++ (bases_bytes m.held.bases ++ records_bytes m.held.parts))) first
     ∙ ap (λ (l : List ℕ). be8 x ++ (l ++ (bases_bytes m.held.bases ++ records_bytes m.held.parts))) second
 
-module _ (shape : Shape) (volume : IsVolume shape) where
-  all_long : (n : ℕ) (blocks : List (List ℕ)) → list_all (λ x. length x == n) blocks ≡ true → AllByRecursion (λ x. length x ≡ n) blocks
-  all_long n [] all = tt
-  all_long n (x ∷ blocks) all = (eqb-true (length x) n (and_left (length x == n) (list_all (λ y. length y == n) blocks) all), all_long n blocks (and_right (length x == n) (list_all (λ y. length y == n) blocks) all))
+pub all_long : (n : ℕ) (blocks : List (List ℕ)) → list_all (λ x. length x == n) blocks ≡ true → AllByRecursion (λ x. length x ≡ n) blocks
+all_long n [] all = tt
+all_long n (x ∷ blocks) all = (eqb-true (length x) n (and_left (length x == n) (list_all (λ y. length y == n) blocks) all), all_long n blocks (and_right (length x == n) (list_all (λ y. length y == n) blocks) all))
 
-  one_size : (n : ℕ) (blocks : List (List ℕ)) → AllByRecursion (λ x. length x ≡ n) blocks → AllByRecursion (λ x. length x ≡ size_of blocks) blocks
-  one_size n [] all = tt
-  one_size n (x ∷ blocks) all = all_then (λ y. length y ≡ n) (λ y. length y ≡ length x) (λ y same. same ∙ sym all.0) (x ∷ blocks) all
+one_size : (n : ℕ) (blocks : List (List ℕ)) → AllByRecursion (λ x. length x ≡ n) blocks → AllByRecursion (λ x. length x ≡ size_of blocks) blocks
+one_size n [] all = tt
+one_size n (x ∷ blocks) all = all_then (λ y. length y ≡ n) (λ y. length y ≡ length x) (λ y same. same ∙ sym all.0) (x ∷ blocks) all
+
+module _ (shape : Shape) (volume : IsVolume shape) where
+  -- few blocks of the volume's length have a spelling
+  pub sized_blocks : (blocks : List (List ℕ)) → length blocks ≤ 4096 → AllByRecursion (λ x. length x ≡ shape.block) blocks → AreBlocks blocks
+  sized_blocks blocks few all = record {
+    few_blocks = few;
+    one_size = All-from_recursion (λ x. length x ≡ size_of blocks) blocks (one_size shape.block blocks all);
+    small_blocks = All-from_recursion (λ x. IsBetween 1 4096 (length x)) blocks
+        (all_then (λ x. length x ≡ shape.block) (λ x. IsBetween 1 4096 (length x)) (λ x same. subst (IsBetween 1 4096) (sym same) volume.small_blocks) blocks all);
+  }
 
   are_blocks : (blocks : List (List ℕ)) → has_shape shape blocks ≡ true → AreBlocks blocks
   unfolding has_shape
   are_blocks blocks shaped =
       let long : length blocks ≡ region_blocks shape = eqb-true (length blocks) (region_blocks shape) (and_left (length blocks == region_blocks shape) (list_all (λ x. length x == shape.block) blocks) shaped) in
       let few : 2 ^ shape.height ≤ 2 ^ 10 = pow_mono volume.low in
-      let all : AllByRecursion (λ x. length x ≡ shape.block) blocks = all_long shape.block blocks (and_right (length blocks == region_blocks shape) (list_all (λ x. length x == shape.block) blocks) shaped) in
-      record {
-        few_blocks = omega arith;
-        one_size = All-from_recursion (λ x. length x ≡ size_of blocks) blocks (one_size shape.block blocks all);
-        small_blocks = All-from_recursion (λ x. IsBetween 1 4096 (length x)) blocks
-            (all_then (λ x. length x ≡ shape.block) (λ x. IsBetween 1 4096 (length x)) (λ x same. subst (IsBetween 1 4096) (sym same) volume.small_blocks) blocks all);
-      }
+      sized_blocks blocks (omega arith) (all_long shape.block blocks (and_right (length blocks == region_blocks shape) (list_all (λ x. length x == shape.block) blocks) shaped))
 
   is_held : (held : Held) → HeldFits shape IsSpelled IsSpelled (IsShaped shape) held → is_carried held ≡ true → IsHeld held
   is_held held fits carried = record {

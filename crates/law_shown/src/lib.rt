@@ -10,14 +10,14 @@ ghost use Rattle.salus_model.specs.declared.trace.TraceStep.{TraceStep};
 ghost use Rattle.salus_model.specs.Following.{Follows, Posted};
 ghost use Rattle.run_rules.specs.Running.{NodesByRules, formatted};
 ghost use Rattle.law_history.specs.Handing.{NodesShowHanded};
-ghost use Rattle.law_shown.specs.Reading.{AllAddressed, AllHandBytes};
+ghost use Rattle.law_shown.specs.Reading.{AllAddressed, AllHandSpelled};
 
 /// Does nothing: its clause is the law.
 pub fn nodes_show_what_was_handed()
     ensures shows { (volume : Volume) (events : List Event) (posts : List Posted) (trace : List TraceStep)
         → IsVolume volume.geometry
         → Follows events posts trace
-        → AllHandBytes posts trace
+        → AllHandSpelled posts trace
         → AllAddressed volume.geometry trace
         → NodesByRules volume.geometry (formatted volume) posts trace
         → NodesShowHanded volume posts [] trace }

@@ -14,21 +14,15 @@ ghost use Rattle.salus_model.specs.Judge.{LegalHistory};
 ghost use Rattle.salus_model.specs.Seen.{NoCollision};
 ghost use Rattle.run_rules.specs.Run.{IsByRules, formatted_first};
 ghost use Rattle.law_lines.specs.Running.{run_lines};
-ghost use Rattle.law_posts.specs.Spelling.{AllSpellable};
-ghost use Rattle.law_shown.specs.Reading.{AllAddressed, AllHandBytes};
 
-/// Does nothing: its clause is the law. Besides the two premises, on digests and on tags, it has only limits that a program
-/// keeps by its types and its parser: what is handed over are bytes, each step addresses a party of the volume, and what the
-/// client posts has a spelling.
+/// Does nothing: its clause is the law. Besides the two premises, on digests and on tags, it asks only that the schedule is
+/// within its limits, as every parsed one is, and that the trace follows it.
 pub fn runs_by_rules_are_legal()
     ensures { (volume : Volume) (events : List Event) (posts : List Posted) (trace : List TraceStep)
         → IsWithinLimits (record { volume = volume; events = events })
         → Follows events posts trace
         → NoCollision volume events posts trace
         → NoForgery volume events posts trace
-        → AllHandBytes posts trace
-        → AllAddressed volume.geometry trace
-        → AllSpellable volume posts trace
         → IsByRules volume (formatted_first volume) posts trace
         → (run_lines volume events posts trace ≡ lines_due volume events posts trace)
         × LegalHistory volume.geometry events (run_lines volume events posts trace) }

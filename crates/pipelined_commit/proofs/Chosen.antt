@@ -12,11 +12,12 @@ use Rattle.holding_model.specs.Fitting.{ascends_from}
 use Rattle.replica_rules.specs.Views.{header_is_right}
 use Rattle.replica_rules.specs.Voting.{Votes, Claims, share_place, is_unanimous}
 use Rattle.replica_rules.specs.Leading.{Leader, is_after_claimed, is_certified, advance, all_certified, front_after}
-use Rattle.replica_rules.proofs.Lists.{all_then, OfSome}
-use Rattle.replica_rules.proofs.Elements.{by_bool, way_with, found_among, among_all, among_map}
 use Rattle.replica_rules.proofs.Advancing.{first_of, advance-first, Ascends, advance-rest}
 use Rattle.pipelined_commit.specs.Noting.{Noted, noted_of, IsNoted}
 use Rattle.pipelined_commit.specs.Standing.{KeptLeader, StandsFor, MayBeClaimed, IsClaimable, IsFirst}
+use Rattle.list_lemmas.proofs.Each.{all_then, OfSome}
+use Rattle.list_lemmas.proofs.Tests.{by_bool, way_with}
+use Rattle.list_lemmas.proofs.Members.{found_among, among_all, among_map-in}
 
 -- ---- what it gives was certified
 
@@ -57,7 +58,7 @@ first_least test (x ∷ hs) h noted among pass =
     (λ (same : h ≡ x). let at : h.seq ≡ x.seq = ap (λ (y : Header). y.seq) same in let most : x.seq ≤ h.seq = omega arith in most)
     (λ (more : IsAmong h hs).
     let behind : (x.seq < h.seq) × (share_place x.seq h.seq ≡ false) =
-    among_all (λ (o : Noted). (x.seq < o.seq) × (share_place x.seq o.seq ≡ false)) (map noted_of hs) (noted_of h) (among_map noted_of hs h more) noted.0 in
+    among_all (λ (o : Noted). (x.seq < o.seq) × (share_place x.seq o.seq ≡ false)) (map noted_of hs) (noted_of h) (among_map-in noted_of hs h more) noted.0 in
     let most : x.seq ≤ h.seq = omega (arith, behind.0) in
     most)
     among)

@@ -9,10 +9,10 @@ use Rattle.std.proofs.lemmas.Nat.{mod_below}
 use Rattle.std.proofs.lemmas.List.{length-map}
 use Rattle.std.proofs.lemmas.Map.Steps.{length-le_from_distinct_below}
 use Rattle.replica_rules.specs.Voting.{share_place}
-use Rattle.replica_rules.proofs.Lists.{all_filter, all_map, all_then}
-use Rattle.replica_rules.proofs.Elements.{way_with, all_pass, all_zip, among_all, any_among}
-use Rattle.unanimous_certificate.proofs.Placing.{same_test}
 use Rattle.pipelined_commit.specs.Noting.{Noted, IsNoted, has_passed, without_place, put_note, with_note}
+use Rattle.list_lemmas.proofs.Each.{all_filter, all_map, all_then, all_pass, all_zip}
+use Rattle.list_lemmas.proofs.Tests.{way_with, same_test}
+use Rattle.list_lemmas.proofs.Members.{among_all, any_among}
 
 -- ---- places
 

@@ -6,7 +6,7 @@ use Rattle.salus_types.specs.Volume.{Shape}
 use Rattle.salus_types.specs.declared.records.Header.{Header}
 use Rattle.replica_rules.specs.Voting.{is_unanimous}
 use Rattle.replica_rules.specs.Leading.{Leader, is_after_claimed, is_certified, advance, all_certified}
-use Rattle.replica_rules.proofs.Elements.{by_bool, and_left}
+use Rattle.list_lemmas.proofs.Tests.{by_bool, and_left}
 
 abbrev pub first_of : {A : Type 0} → List A → Option A
 first_of [] = None

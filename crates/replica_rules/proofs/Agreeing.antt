@@ -21,6 +21,7 @@ use Rattle.salus_message.specs.declared.replies.Answer.{Answer}
 use Rattle.salus_message.specs.declared.wire.Message.{Message}
 use Rattle.salus_message.specs.declared.wire.Message.TheVariants as message
 use Rattle.merkle_region.specs.Tree.{root_of, IsAmong}
+use Rattle.merkle_region.proofs.Membership.{among_left, among_right}
 use Rattle.volume_model.specs.Groups.{group_of, all_nodes}
 use Rattle.holding_model.specs.Fitting.{has_shape}
 use Rattle.replica_rules.specs.Views.{View, view_of_base, view_after, view_root, led_by}
@@ -30,9 +31,10 @@ use Rattle.replica_rules.specs.Leading.{all_certified}
 use Rattle.holding_model.specs.Changing.{AddsPart, SwitchesTo, FoldsTo, is_folded, folded, changed, after_changes}
 use Rattle.replica_rules.specs.Nodes.{Memory, NodeState, base_held, goes_on, Tried, counted, all_tried, open_parts, memory_of, open_base, loaded_as}
 use Rattle.replica_rules.specs.Rules.{Sending, Turn, Plan, quiet, plan_of, ignored, told_client, vote_for, votes_for, claim_of, claims_of, same_record, same_header, then_claims, stored, voted_again, part_answered, then_answers, by_part, answer_out, by_ask, is_carried, by_gather, says_staged, staged, staged_again, staged_whole, staged_from, staged_anew, is_staged_here, by_stage, says_switched, switched, by_switch, dumped, by_dump, with_leader, by_vote, fold_number, folds, after_fold, then_fold, by_claim, is_at_start, by_tick, Input, planned}
-use Rattle.replica_rules.proofs.Lists.{either_way, all_both, all_filter, all_map, all_then, all_each, all_flat, OfSome, any_way}
-use Rattle.replica_rules.proofs.Elements.{among_left, among_right, among_all, all_among, among_filter, among_whole, by_bool, way_with, all_pass, all_zip, flat_of_all, any_among, not_and, and_left, and_right}
 use Rattle.replica_rules.proofs.Dispatch.{planned_by}
+use Rattle.list_lemmas.proofs.Each.{either_way, all_both, all_filter, all_map, all_then, all_each, all_flat, OfSome, any_way, all_pass, all_zip, flat_of_all}
+use Rattle.list_lemmas.proofs.Members.{among_all, all_among, among_filter-in, any_among, among_filter}
+use Rattle.list_lemmas.proofs.Tests.{by_bool, way_with, not_and, and_left, and_right}
 
 abbrev pub AllHeld : Held → List Record → Type 0
 AllHeld held parts = AllByRecursion (λ rec. IsAmong rec held.parts) parts
@@ -174,7 +176,7 @@ module _ (shape : Shape) where
       let above : List Record = filter (λ rec. nat_lt n rec.header.seq) parts in
       let held_still : AllHeld held above = all_filter (λ rec. IsAmong rec held.parts) (λ rec. nat_lt n rec.header.seq) parts all in
       all_then (λ rec. IsAmong rec held.parts × (nat_lt n rec.header.seq ≡ true)) (λ rec. IsAmong rec (filter (λ r. not (is_folded held n r)) held.parts))
-      (λ rec both. among_filter (λ r. not (is_folded held n r)) held.parts rec both.0 (not_and (rec.header.session == held.session) (nat_le rec.header.seq n)
+      (λ rec both. among_filter-in (λ r. not (is_folded held n r)) held.parts rec both.0 (not_and (rec.header.session == held.session) (nat_le rec.header.seq n)
       (by_bool (nat_le rec.header.seq n) (nat_le rec.header.seq n ≡ false)
       (λ low. let under : rec.header.seq ≤ n = leb-true rec.header.seq n low in let over : n < rec.header.seq = ltb-true n rec.header.seq both.1 in absurd (omega arith)) (λ high. high))))
       above (all_zip (λ rec. IsAmong rec held.parts) (λ rec. nat_lt n rec.header.seq ≡ true) above held_still (all_pass (λ rec. nat_lt n rec.header.seq) parts))
@@ -220,7 +222,7 @@ module _ (shape : Shape) where
     mapped : (o : Option Base) → OfSome (λ m. AllHeld held m.parts) (option_map (λ base. memory_of shape g held base) o)
     mapped None = tt
     mapped (Some base) =
-        all_then (λ rec. IsAmong rec (open_parts held)) (λ rec. IsAmong rec held.parts) (λ rec among. among_whole (λ r. r.header.session == held.session) held.parts rec among)
+        all_then (λ rec. IsAmong rec (open_parts held)) (λ rec. IsAmong rec held.parts) (λ rec among. (among_filter (λ r. r.header.session == held.session) rec held.parts among).0)
         (all_tried shape g (view_of_base base) (open_parts held)).parts (tried_among g (view_of_base base) (open_parts held))
 
   -- ---- the rules that need no open session

@@ -17,7 +17,7 @@ use Rattle.salus_message.specs.declared.wire.MessageError.{MessageError}
 use Rattle.salus_message.specs.Reading.{message_at}
 use Rattle.replica_rules.specs.Nodes.{Memory, NodeState}
 use Rattle.replica_rules.specs.Rules.{Turn, Plan, plan_of, ignored, in_session, by_part, by_ask, by_gather, by_stage, by_switch, by_dump, by_vote, by_claim, by_tick, from_client, is_node, from_node, from_result, Input, Receives, Ticks, planned}
-use Rattle.replica_rules.proofs.Lists.{either_way, OfSome, some_way}
+use Rattle.list_lemmas.proofs.Each.{either_way, OfSome, some_way}
 
 module _ (shape : Shape) (g : ℕ) (node : NodeState) (R : Memory → Type 0) (there : OfSome R node.memory) (Q : Plan → Type 0) (none : Q (ignored node)) where
   in_session_by : (rule : Memory → Turn) → ((m : Memory) → R m → Q (plan_of (rule m))) → Q (in_session node rule)

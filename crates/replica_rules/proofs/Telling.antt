@@ -12,8 +12,8 @@ use Rattle.holding_model.specs.Fitting.{has_shape}
 use Rattle.replica_rules.specs.Views.{view_root}
 use Rattle.replica_rules.specs.Nodes.{NodeState, base_held}
 use Rattle.replica_rules.specs.Rules.{Plan, ignored, told_client, is_carried, by_gather, says_staged, staged, staged_again, staged_whole, staged_from, staged_anew, is_staged_here, by_stage, same_record, says_switched, switched, by_switch, Input, planned}
-use Rattle.replica_rules.proofs.Lists.{either_way, any_way}
 use Rattle.replica_rules.proofs.Turns.{planned_is}
+use Rattle.list_lemmas.proofs.Each.{either_way, any_way}
 
 -- a message that tells all that is held tells this
 abbrev pub TellsHeld : Held → Message → Type 0

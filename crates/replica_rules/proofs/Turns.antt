@@ -27,7 +27,7 @@ use Rattle.replica_rules.specs.Leading.{all_certified}
 use Rattle.holding_model.specs.Changing.{Change, AddsPart, AddsBase, SwitchesTo, FoldsTo}
 use Rattle.replica_rules.specs.Nodes.{Memory, NodeState}
 use Rattle.replica_rules.specs.Rules.{Sending, Turn, Plan, quiet, plan_of, ignored, vote_for, votes_for, claim_of, claims_of, then_claims, part_answered, then_answers, by_part, answer_out, by_ask, by_gather, by_stage, same_record, by_switch, dumped, by_dump, with_leader, by_vote, fold_number, folds, after_fold, then_fold, by_claim, is_at_start, by_tick, from_client, is_node, from_node, from_result, Input, Receives, Ticks, planned}
-use Rattle.replica_rules.proofs.Lists.{either_way, all_both, all_map, all_each, all_flat, any_way}
+use Rattle.list_lemmas.proofs.Each.{either_way, all_both, all_map, all_each, all_flat, any_way}
 
 -- a part is added, or parts are folded
 abbrev pub IsAdded : Change → Type 0

@@ -1,5 +1,5 @@
 -- Places that ascend, in a loop.
-use Rattle.std.proofs.Common.{◌≡◌, ℕ, ◌+◌, ◌<◌, ◌≤◌, ◌∙◌, true, ◌&&◌, nat_le, List, [], ◌∷◌, length, map, drop, get_or, refl, ap, sym}
+use Rattle.std.proofs.Common.{◌≡◌, ℕ, ◌+◌, ◌<◌, ◌≤◌, ◌∙◌, true, ◌&&◌, nat_le, List, length, map, drop, get_or, ap, sym}
 use Rattle.std.proofs.lemmas.List.{at_drop_more, at_drop_all}
 use Rattle.salus_types.specs.declared.records.PlaceWrite.{PlaceWrite}
 use Rattle.holding_model.specs.Fitting.{ascends_from, blocks_written}

@@ -1,23 +1,17 @@
 -- The ends of the chains of a session in a region: each base's, and each one part further.
-use Rattle.std.proofs.Common.{◌≡◌, ℕ, zero, suc, ◌+◌, ◌-◌, ◌<◌, ◌≤◌, ◌∙◌, ◌⊎◌, Bool, true, false, ◌==◌, ◌&&◌, nat_lt, nat_le, cond, List, [], ◌∷◌, ◌++◌, length, map, Option, None, Some, bytes_eq, inl, inr, refl, ap, sym, subst, arith}
+use Rattle.std.proofs.Common.{◌≡◌, ℕ, zero, suc, ◌+◌, ◌-◌, ◌<◌, ◌≤◌, Bool, true, false, ◌==◌, nat_lt, nat_le, cond, List, [], ◌∷◌, length, map, bytes_eq, inl, inr, refl, sym, subst, arith}
 use Rattle.std.specs.Prelude.{flat_map, filter}
-use Rattle.std.proofs.lemmas.Bool.{eqb-true, false≢true, ltb-true, leb-true}
+use Rattle.std.proofs.lemmas.Bool.{eqb-true, false≢true, ltb-true}
 use Rattle.salus_types.specs.Volume.{Shape}
 use Rattle.salus_types.specs.declared.records.Record.{Record}
 use Rattle.salus_types.specs.declared.records.Base.{Base}
 use Rattle.merkle_region.specs.Tree.{root_of, IsAmong}
 use Rattle.merkle_region.proofs.Membership.{among_left, among_right, among_either}
 use Rattle.holding_model.specs.Fitting.{has_content, blocks_after}
-use Rattle.volume_model.specs.Recovering.{End, base_end, is_link, is_of, linked, chain_ends}
-use Rattle.restart_pool.specs.Following.{Chains, ends, end_after, follow}
-use Rattle.restart_pool.proofs.Members.{among_filter, among_filter-in, among_map, among_map-in, among_flat_map, among_flat_map-in}
-
-pub and_four : (a b c d : Bool) → (a && b && c && d) ≡ true → (a ≡ true) × (b ≡ true) × (c ≡ true) × (d ≡ true)
-and_four true true true true e = (refl, refl, refl, refl)
-and_four true true true false e = absurd (false≢true e)
-and_four true true false d e = absurd (false≢true e)
-and_four true false c d e = absurd (false≢true e)
-and_four false b c d e = absurd (false≢true e)
+use Rattle.volume_model.specs.Recovering.{End, base_end, is_link, linked, chain_ends}
+use Rattle.restart_pool.specs.Following.{ends, end_after}
+use Rattle.list_lemmas.proofs.Members.{among_filter, among_filter-in, among_map, among_map-in, among_flat_map, among_flat_map-in}
+use Rattle.list_lemmas.proofs.Tests.{and_four}
 
 module _ (shape : Shape) (bases : List Base) (parts : List Record) where
   abbrev upto : ℕ → List End
@@ -29,12 +23,12 @@ module _ (shape : Shape) (bases : List Base) (parts : List Record) where
   further n end rec m p links =
       among_right (end_after shape end rec) (map base_end bases) (flat_map (λ e. linked shape parts e) (upto n))
       (among_flat_map-in (λ e. linked shape parts e) end (end_after shape end rec) (upto n) m
-      (among_map-in (end_after shape end) rec (filter (λ r. is_link shape end r) parts) (among_filter-in (λ r. is_link shape end r) rec parts p links)))
+      (among_map-in (end_after shape end) (filter (λ r. is_link shape end r) parts) rec (among_filter-in (λ r. is_link shape end r) parts rec p links)))
 
   pub from_base : (n : ℕ) (base : Base) → IsAmong base bases → IsAmong (base_end base) (upto n)
   unfolding chain_ends
-  from_base zero base m = among_map-in base_end base bases m
-  from_base (suc n) base m = among_left (base_end base) (map base_end bases) (flat_map (λ e. linked shape parts e) (upto n)) (among_map-in base_end base bases m)
+  from_base zero base m = among_map-in base_end bases base m
+  from_base (suc n) base m = among_left (base_end base) (map base_end bases) (flat_map (λ e. linked shape parts e) (upto n)) (among_map-in base_end bases base m)
 
   -- how a chain comes about
   pub data HowEnds (n : ℕ) (end : End) : Type 0 where

@@ -1,7 +1,7 @@
 -- The ends of the chains of a session in a region, and how chains go on with given parts.
-use Rattle.std.proofs.Common.{◌≡◌, ◌≢◌, ℕ, zero, suc, ◌+◌, ◌-◌, ◌<◌, ◌≤◌, ◌∙◌, ◌⊎◌, Bool, true, false, ◌==◌, ◌&&◌, nat_lt, cond, List, [], ◌∷◌, ◌++◌, length, map, drop, get_or, MatchOption, Option, None, Some, bytes_eq, inl, inr, refl, ap, sym, subst, arith}
+use Rattle.std.proofs.Common.{◌≡◌, ℕ, suc, ◌+◌, ◌<◌, ◌≤◌, ◌∙◌, Bool, true, false, ◌==◌, ◌&&◌, nat_lt, cond, List, [], ◌∷◌, ◌++◌, length, drop, get_or, MatchOption, Option, None, Some, bytes_eq, refl, ap, sym, subst, arith}
 use Rattle.std.specs.Prelude.{filter, filter_map, slice_get, option_and_then, option_map}
-use Rattle.std.proofs.lemmas.Bool.{eqb-true, eq-eqb, false≢true, and_parts, and_from, and_left, and_right, cond-true, cond-false, cases_Bool}
+use Rattle.std.proofs.lemmas.Bool.{eqb-true, eq-eqb, false≢true, and_parts, and_from, cond-true, cond-false}
 use Rattle.std.proofs.lemmas.Option.{none-some, same_Some}
 use Rattle.std.proofs.lemmas.List.{at_drop_more, at_drop_all}
 use Rattle.salus_types.specs.Volume.{Shape}
@@ -9,12 +9,13 @@ use Rattle.salus_types.specs.declared.records.Record.{Record}
 use Rattle.salus_types.specs.declared.records.Base.{Base}
 use Rattle.merkle_region.specs.Tree.{root_of, IsAmong}
 use Rattle.holding_model.specs.Fitting.{has_content, blocks_after}
-use Rattle.volume_model.specs.Recovering.{End, base_end, is_link, is_of, chain_ends}
+use Rattle.volume_model.specs.Recovering.{End, base_end, is_link, is_of}
 use Rattle.restart_pool.specs.Following.{Chains, ends, end_after, follow, after_found, along, whole_at, starts_at, NoneStarts, NoneFollows, LeadsTo, IsEndAt, Begins, NotBegun, later_of}
 use Rattle.restart_pool.specs.declared.replay.Whole.{Whole}
 use Rattle.restart_pool.specs.declared.chain.Way.{Way}
-use Rattle.restart_pool.proofs.Members.{among_filter, among_filter-in, among_map, among_map-in}
-use Rattle.restart_pool.proofs.Chains.{and_four, HowEnds, AtBase, ByLink, from_base, further, how_ends, one_round_more, in_all}
+use Rattle.restart_pool.proofs.Chains.{HowEnds, AtBase, ByLink, from_base, further, how_ends, one_round_more, in_all}
+use Rattle.list_lemmas.proofs.Members.{among_filter, among_filter-in}
+use Rattle.list_lemmas.proofs.Tests.{and_four}
 
 one_le : {A : Type 0} (t : Bool) (x : A) (ys xs : List A) → length ys ≤ length xs → length (cond t (x ∷ ys) ys) ≤ suc (length xs)
 one_le true x ys xs h = omega arith
@@ -35,14 +36,14 @@ module _ (c : Chains) where
 
   pub base-ends : (base : Base) → IsAmong base c.bases → is_of c.session c.region base.rec.header ≡ true → IsAmong (base_end base) (ends c)
   unfolding ends
-  base-ends base m is = from_base c.shape (filter of_base c.bases) (filter of_part c.parts) (length c.parts) base (among_filter-in of_base base c.bases m is)
+  base-ends base m is = from_base c.shape (filter of_base c.bases) (filter of_part c.parts) (length c.parts) base (among_filter-in of_base c.bases base m is)
 
   pub link-ends : (end : End) (rec : Record) → IsAmong end (ends c) → IsAmong rec c.parts → is_of c.session c.region rec.header ≡ true → is_link c.shape end rec ≡ true
       → IsAmong (end_after c.shape end rec) (ends c)
   unfolding ends
   link-ends end rec m p is links =
       in_all c.shape (filter of_base c.bases) (filter of_part c.parts) (suc (length c.parts)) (length c.parts) (end_after c.shape end rec) (length-filter of_part c.parts)
-      (further c.shape (filter of_base c.bases) (filter of_part c.parts) (length c.parts) end rec m (among_filter-in of_part rec c.parts p is) links)
+      (further c.shape (filter of_base c.bases) (filter of_part c.parts) (length c.parts) end rec m (among_filter-in of_part c.parts rec p is) links)
 
   pub data WhereFrom (end : End) : Type 0 where
     Base-of : (base : Base) → IsAmong base c.bases → is_of c.session c.region base.rec.header ≡ true → end ≡ base_end base → WhereFrom end

@@ -1,30 +1,29 @@
 -- The blocks of all regions, gathered one region after the other, and what a header names.
-use Rattle.std.proofs.Common.{◌≡◌, ℕ, zero, suc, ◌+◌, ◌<◌, ◌≤◌, ◌^◌, ◌∙◌, ◌⊎◌, Bool, true, false, cond, List, [], ◌∷◌, ◌++◌, length, map, get_or, slice_index, Option, None, Some, MatchOption, inl, inr, refl, ap, subst, sym, arith}
-use Rattle.std.specs.Prelude.{find, flat_map, bytes_eq, option_map, IfSome}
-use Rattle.std.specs.List.{range_with_len}
+use Rattle.std.proofs.Common.{◌≡◌, ℕ, ◌+◌, ◌<◌, ◌^◌, ◌∙◌, Bool, true, false, cond, List, [], ◌∷◌, ◌++◌, length, map, get_or, slice_index, Option, None, Some, inl, inr, refl, ap, subst, sym, arith}
+use Rattle.std.specs.Prelude.{bytes_eq, option_map, IfSome}
 use Rattle.std.proofs.lemmas.List.{length-append, length-map, map-append, append-nil}
 use Rattle.std.proofs.Math.Seq.{get_or-append_seam}
 use Rattle.std.proofs.lemmas.List.{get_or_append_left}
 use Rattle.std.proofs.lemmas.List.FromFn.{length-map-range_with_len, get_or-map-range_with_len}
 use Rattle.std.proofs.lemmas.Grind.{flat_map-append}
 use Rattle.std.proofs.lemmas.Bool.{cases_lt}
-use Rattle.salus_types.specs.Volume.{Shape, regions}
+use Rattle.salus_types.specs.Volume.{regions}
 use Rattle.salus_types.specs.declared.records.Header.{Header}
 use Rattle.salus_types.specs.declared.records.Record.{Record}
 use Rattle.salus_types.specs.declared.records.Base.{Base}
-use Rattle.merkle_region.specs.Tree.{root_of, tree_strings, IsAmong, NoTwoCollide}
+use Rattle.merkle_region.specs.Tree.{root_of, IsAmong, NoTwoCollide}
 use Rattle.merkle_region.proofs.Membership.{none-within}
 use Rattle.merkle_volume.specs.Top.{top_of}
 use Rattle.holding_model.specs.Fitting.{has_shape}
 use Rattle.volume_model.specs.Contents.{all_regions}
-use Rattle.volume_model.specs.Recovering.{Pool, blocks_up_to, choices_of, picks, has_top, recovered}
+use Rattle.volume_model.specs.Recovering.{blocks_up_to, choices_of, picks, has_top, recovered}
 use Rattle.restart_pool.specs.Kept.{Kept, IsSound}
 use Rattle.restart_pool.specs.Assembled.{joined, contents_of, region_chain_strings, session_strings, AreWhole, HasNoChain, IsRecovered, NoTwoShare}
 use Rattle.restart_pool.specs.declared.assemble.Contents.{Contents}
 use Rattle.restart_pool.specs.declared.replay.Whole.{Whole}
-use Rattle.restart_pool.proofs.Members.{among_map, among_flat_map-in}
 use Rattle.restart_pool.proofs.Picking.{IsOne, pick-in, no-pick, one-pick, find-one, find-not}
 use Rattle.restart_pool.proofs.Single.{one-up_to}
+use Rattle.list_lemmas.proofs.Members.{among_map, among_flat_map-in}
 
 module _ (kept : Kept) (e : ℕ) (fronts : List ℕ) where
   abbrev of_region : ℕ → List (List (List ℕ))

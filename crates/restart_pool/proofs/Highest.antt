@@ -1,6 +1,5 @@
 -- A bound of the numbers that ways have reached, which falls from one round to the next.
-use Rattle.std.proofs.Common.{◌≡◌, ℕ, zero, suc, ◌+◌, ◌<◌, ◌≤◌, max, List, [], ◌∷◌, inl, inr, refl, ap, subst, sym, arith}
-use Rattle.merkle_region.specs.Tree.{IsAmong}
+use Rattle.std.proofs.Common.{ℕ, suc, ◌<◌, ◌≤◌, max, List, [], ◌∷◌, inl, inr, refl, subst, sym, arith}
 use Rattle.restart_pool.specs.declared.chain.Way.{Way}
 use Rattle.restart_pool.specs.Following.{EachBelow}
 

@@ -1,5 +1,5 @@
 -- What a pool keeps of its invariant when something is added.
-use Rattle.std.proofs.Common.{◌≡◌, ℕ, ◌∙◌, true, ◌&&◌, List, [], ◌∷◌, ◌++◌, map, None, inl, inr, ap, sym, subst, bytes_eq}
+use Rattle.std.proofs.Common.{◌≡◌, ℕ, ◌∙◌, true, ◌&&◌, List, [], ◌∷◌, ◌++◌, None, inl, inr, ap, sym, subst, bytes_eq}
 use Rattle.std.proofs.lemmas.List.{map-append}
 use Rattle.std.proofs.lemmas.Bool.{and_parts}
 use Rattle.std.proofs.lemmas.Slice.Eq.{bytes_eq-Decides}

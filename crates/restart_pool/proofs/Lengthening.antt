@@ -1,15 +1,15 @@
 -- Ways that are added.
-use Rattle.std.proofs.Common.{◌≡◌, ℕ, ◌+◌, ◌<◌, ◌≤◌, ◌∙◌, Bool, true, false, ◌&&◌, nat_lt, List, [], ◌∷◌, ◌++◌, length, Option, None, Some, inl, inr, refl, ap, subst, sym, arith}
+use Rattle.std.proofs.Common.{◌≡◌, ℕ, ◌<◌, ◌≤◌, ◌∙◌, Bool, true, false, ◌&&◌, nat_lt, List, [], ◌∷◌, ◌++◌, Option, None, Some, inl, inr, refl, ap, subst, sym, arith}
 use Rattle.std.specs.Prelude.{slice_get}
 use Rattle.std.specs.List.{cons_option}
-use Rattle.std.proofs.lemmas.Bool.{ltb-true, false≢true}
+use Rattle.std.proofs.lemmas.Bool.{false≢true}
 use Rattle.salus_types.specs.declared.records.Record.{Record}
 use Rattle.merkle_region.specs.Tree.{IsAmong}
 use Rattle.merkle_region.proofs.Membership.{among_left, among_right, among_either}
 use Rattle.holding_model.specs.Fitting.{has_content}
 use Rattle.volume_model.specs.Recovering.{is_of}
 use Rattle.restart_pool.specs.declared.chain.Way.{Way}
-use Rattle.restart_pool.specs.Following.{Chains, along, later_of, LeadsTo, EachLeads, EachBelow, NoneIsWay, NoneFollows, NoneStarts, NoneBegins, IsCovered, IsTried, AreLengthened, AddsOne, AddsLonger, AreLonger}
+use Rattle.restart_pool.specs.Following.{Chains, along, later_of, LeadsTo, EachLeads, EachBelow, NoneFollows, IsCovered, IsTried, AreLengthened, AddsOne, AreLonger}
 use Rattle.restart_pool.proofs.Ends.{leads-on, no-link}
 
 module _ (c : Chains) (way : Way) where

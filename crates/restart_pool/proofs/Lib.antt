@@ -1,5 +1,3 @@
-pub mod Members
-pub mod SameRoots
 pub mod Taken
 pub mod Chains
 pub mod Ascending

@@ -1,11 +1,10 @@
 -- One of each list: which picks there are, and where there is at most one.
-use Rattle.std.proofs.Common.{◌≡◌, ℕ, zero, suc, ◌+◌, ◌<◌, ◌≤◌, ◌∙◌, Bool, true, false, cond, List, [], ◌∷◌, ◌++◌, length, map, get_or, Option, None, Some, inl, inr, refl, ap, subst, sym, arith}
+use Rattle.std.proofs.Common.{◌≡◌, ℕ, zero, suc, ◌<◌, ◌∙◌, Bool, true, false, cond, List, [], ◌∷◌, ◌++◌, length, map, get_or, None, Some, inl, inr, refl, ap, subst, sym, arith}
 use Rattle.std.specs.Prelude.{find, flat_map}
 use Rattle.std.proofs.lemmas.Bool.{false≢true}
-use Rattle.std.proofs.lemmas.Option.{none-some}
 use Rattle.merkle_region.specs.Tree.{IsAmong}
 use Rattle.volume_model.specs.Recovering.{picks}
-use Rattle.restart_pool.proofs.Members.{among_map, among_map-in, among_flat_map, among_flat_map-in}
+use Rattle.list_lemmas.proofs.Members.{among_map, among_map-in, among_flat_map, among_flat_map-in}
 
 module _ {A : Type 0} where
   pub pick-in : (d : A) (e : List A) (choices : List (List A)) (pick : List A) → length pick ≡ length choices
@@ -17,7 +16,7 @@ module _ {A : Type 0} where
   pick-in d e (xs ∷ choices) (x ∷ pick) n each =
       let first : IsAmong x xs = each 0 (omega arith) in
       let others = pick-in d e choices pick (omega arith) (λ g lt. each (suc g) (omega arith)) in
-      among_flat_map-in (λ y. map (λ rest. y ∷ rest) (picks choices)) x (x ∷ pick) xs first (among_map-in (λ (rest : List A). x ∷ rest) pick (picks choices) others)
+      among_flat_map-in (λ y. map (λ rest. y ∷ rest) (picks choices)) x (x ∷ pick) xs first (among_map-in (λ (rest : List A). x ∷ rest) (picks choices) pick others)
 
   -- a list of which nothing can be picked
   none_of : (choices : List (List A)) (xs : List A) → picks choices ≡ [] → flat_map (λ x. map (λ rest. x ∷ rest) (picks choices)) xs ≡ []

@@ -1,9 +1,8 @@
 -- The rounds in which ways get longer.
-use Rattle.std.proofs.Common.{◌≡◌, ◌≢◌, ◌⊎◌, ℕ, zero, suc, ◌+◌, ◌-◌, ◌<◌, ◌≤◌, ◌∙◌, List, [], ◌∷◌, ◌++◌, length, take, None, Some, inl, inr, refl, ap, subst, sym, arith}
-use Rattle.std.proofs.lemmas.Option.{same_Some, none-some}
+use Rattle.std.proofs.Common.{◌≡◌, ◌⊎◌, ℕ, ◌+◌, ◌-◌, ◌<◌, ◌≤◌, ◌∙◌, List, [], ◌∷◌, length, take, inl, inr, refl, ap, subst, sym, arith}
+use Rattle.std.proofs.lemmas.Option.{same_Some}
 use Rattle.std.proofs.lemmas.List.{take_all}
 use Rattle.merkle_region.specs.Tree.{IsAmong}
-use Rattle.salus_types.specs.declared.records.Record.{Record}
 use Rattle.volume_model.specs.Recovering.{End}
 use Rattle.restart_pool.specs.declared.chain.Way.{Way}
 use Rattle.restart_pool.specs.declared.replay.Whole.{Whole}

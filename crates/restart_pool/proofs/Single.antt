@@ -1,8 +1,8 @@
 -- Where no two different kept records share session, number and region, the chains that end at a number have the same blocks.
-use Rattle.std.proofs.Common.{◌≡◌, ℕ, zero, suc, ◌+◌, ◌<◌, ◌≤◌, ◌^◌, ◌∙◌, ◌⊎◌, Bool, true, false, ◌==◌, ◌&&◌, nat_lt, cond, List, [], ◌∷◌, ◌++◌, length, map, MatchOption, Option, None, Some, bytes_eq, inl, inr, refl, ap, subst, sym, arith}
-use Rattle.std.specs.Prelude.{filter, flat_map, slice_set}
+use Rattle.std.proofs.Common.{◌≡◌, ℕ, zero, suc, ◌^◌, ◌∙◌, Bool, true, false, ◌==◌, nat_lt, cond, List, [], ◌∷◌, length, map, MatchOption, Option, None, Some, bytes_eq, inl, inr, refl, ap, subst, sym}
+use Rattle.std.specs.Prelude.{filter, slice_set}
 use Rattle.std.specs.List.{list_all}
-use Rattle.std.proofs.lemmas.Bool.{false≢true, eqb-true, eq-eqb, and_parts}
+use Rattle.std.proofs.lemmas.Bool.{eqb-true, eq-eqb, and_parts}
 use Rattle.std.proofs.lemmas.Option.{none-some}
 use Rattle.std.proofs.lemmas.List.{length-set}
 use Rattle.std.proofs.lemmas.Slice.Eq.{bytes_eq-Decides}
@@ -12,16 +12,16 @@ use Rattle.salus_types.specs.declared.records.Record.{Record}
 use Rattle.salus_types.specs.declared.records.Base.{Base}
 use Rattle.merkle_region.specs.Tree.{root_of, tree_strings, IsAmong, NoTwoCollide}
 use Rattle.holding_model.specs.Fitting.{blocks_written, blocks_after, has_content, has_shape}
-use Rattle.volume_model.specs.Recovering.{Pool, End, base_end, is_link, is_of, ends_of, blocks_up_to, chain_ends}
+use Rattle.volume_model.specs.Recovering.{End, base_end, is_link, is_of, ends_of, blocks_up_to, chain_ends}
 use Rattle.restart_pool.specs.Following.{Chains, ends, end_after, follow, NoneFollows, IsEndAt}
-use Rattle.restart_pool.specs.Kept.{Kept, IsKept}
+use Rattle.restart_pool.specs.Kept.{Kept}
 use Rattle.restart_pool.specs.Assembled.{IsKeptRecord, NoTwoShare, region_chain_strings}
 use Rattle.restart_pool.specs.declared.replay.Whole.{Whole}
-use Rattle.restart_pool.proofs.Members.{among_filter, among_filter-in, among_map, among_map-in, among_flat_map-in}
-use Rattle.restart_pool.proofs.Chains.{and_four, HowEnds, AtBase, ByLink, how_ends, one_round_more}
-use Rattle.restart_pool.proofs.Ends.{WhereFrom, Base-of, Link-of, where_from}
-use Rattle.restart_pool.proofs.SameRoots.{same_roots}
+use Rattle.restart_pool.proofs.Chains.{HowEnds, AtBase, ByLink, how_ends}
 use Rattle.restart_pool.proofs.Picking.{IsOne}
+use Rattle.list_lemmas.proofs.Members.{among_filter, among_filter-in, among_map, among_map-in, among_flat_map-in}
+use Rattle.list_lemmas.proofs.Tests.{and_four}
+use Rattle.list_lemmas.proofs.SameRoots.{same_roots}
 
 abbrev pub chains_of : Kept → ℕ → ℕ → Chains
 chains_of kept e g = record { shape = kept.shape; session = e; region = g; bases = kept.held.bases; parts = kept.held.parts }
@@ -52,8 +52,8 @@ module _ (kept : Kept) (e g x : ℕ) where
   pub whole-up_to : (whole : Whole) → IsEndAt (chains_of kept e g) x whole → IsAmong whole.blocks up_to × (whole.root ≡ root_of kept.shape.height whole.blocks)
   whole-up_to whole found =
       let m = subst (λ l. IsAmong found.end l) (same-ends kept e g) found.among in
-      let among = among_map-in (λ (end : End). end.blocks) found.end (filter (λ (end : End). end.at == x) (ends_of kept.shape kept.held e g))
-      (among_filter-in (λ (end : End). end.at == x) found.end (ends_of kept.shape kept.held e g) m (eq-eqb found.end.at x found.at)) in
+      let among = among_map-in (λ (end : End). end.blocks) (filter (λ (end : End). end.at == x) (ends_of kept.shape kept.held e g)) found.end
+      (among_filter-in (λ (end : End). end.at == x) (ends_of kept.shape kept.held e g) found.end m (eq-eqb found.end.at x found.at)) in
       subst (λ (w : Whole). IsAmong w.blocks up_to × (w.root ≡ root_of kept.shape.height w.blocks)) (sym found.is) (among, refl)
 
 -- ---- what a chain ends with

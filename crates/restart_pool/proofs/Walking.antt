@@ -1,5 +1,5 @@
 -- The walk over the parts of a number, from the last place to the first.
-use Rattle.std.proofs.Common.{◌≡◌, ◌≢◌, ℕ, zero, suc, ◌+◌, ◌<◌, ◌≤◌, ◌∙◌, Bool, true, false, ◌&&◌, nat_lt, List, [], ◌∷◌, ◌++◌, length, map, slice_index, Option, None, Some, inl, inr, refl, ap, subst, sym, arith}
+use Rattle.std.proofs.Common.{◌≡◌, ◌≢◌, ℕ, zero, suc, ◌<◌, ◌≤◌, ◌∙◌, List, [], ◌∷◌, length, map, slice_index, Option, None, Some, inl, inr, refl, ap, subst, sym, arith}
 use Rattle.std.specs.Prelude.{IfSome, slice_get, option_copied}
 use Rattle.std.specs.Borrow.{Bor}
 use Rattle.std.proofs.lemmas.List.{length-map}
@@ -12,6 +12,7 @@ use Rattle.restart_pool.specs.Latest.{IsLatest}
 use Rattle.restart_pool.specs.Following.{Chains, AreLengthened, AddsOne, AddsLonger, IsTried, IsCovered, later_of}
 use Rattle.restart_pool.proofs.Ends.{none-follows}
 use Rattle.restart_pool.proofs.Lengthening.{lengthened-none, lengthened-more, covered-more}
+use Rattle.list_lemmas.proofs.Lists.{get_among}
 
 -- all places from here on were passed
 abbrev pub below : Option ℕ → ℕ
@@ -35,11 +36,6 @@ number-at [] j rec e = absurd (none-some rec e)
 number-at (r ∷ parts) zero rec e = ap (λ (w : Record). w.header.seq) (same_Some r rec e)
 number-at (r ∷ parts) (suc j) rec e = number-at parts j rec e
 
-pub get-among : (parts : List Record) (j : ℕ) (rec : Record) → slice_get parts j ≡ Some rec → IsAmong rec parts
-get-among [] j rec e = absurd (none-some rec e)
-get-among (r ∷ parts) zero rec e = inl (sym (same_Some r rec e))
-get-among (r ∷ parts) (suc j) rec e = inr (get-among parts j rec e)
-
 pub among-get : (parts : List Record) (rec : Record) → IsAmong rec parts → (j : ℕ) × (slice_get parts j ≡ Some rec)
 among-get [] rec m = absurd m
 among-get (r ∷ parts) rec (inl e) = (zero, ap Some (sym e))
@@ -47,7 +43,7 @@ among-get (r ∷ parts) rec (inr m) = let rest = among-get parts rec m in (suc r
 
 pub among-got : (parts : List Record) (i : ℕ) (found : Option (Bor Record)) → option_copied found ≡ slice_get parts i → IfSome found (λ rec. IsAmong rec.now parts)
 among-got parts i None e = tt
-among-got parts i (Some rec) e = get-among parts i rec.now (sym e)
+among-got parts i (Some rec) e = get_among parts i rec.now (sym e)
 
 module _ (c : Chains) (way : Way) where
   abbrev numbers : List ℕ

@@ -1,11 +1,12 @@
 -- What an answer that gives the meaning of a text says by the rules.
-use Rattle.std.proofs.Common.{◌≡◌, ℕ, List, [], ◌∷◌, subst}
+use Rattle.std.proofs.Common.{◌≡◌, inl, inr, ℕ, ◌<◌, List, [], ◌∷◌, sym, subst, arith}
 use Rattle.std.specs.Prelude.{Result, Ok, Err, IfOk, IfErr}
 use Rattle.std.specs.List.{AllByRecursion, AllZip}
 use Rattle.salus_types.specs.Outcome.{Gives}
 use Rattle.salus_types.specs.Volume.{Shape}
 use Rattle.salus_types.specs.declared.names.Sender.{Sender}
 use Rattle.salus_types.specs.declared.names.Sender.TheVariants as sender
+use Rattle.text_words.specs.Grammar.{IsHexDigit, IsPair, IsPairs, IsLieBytes}
 use Rattle.text_words.proofs.Hexed.{block_length}
 use Rattle.schedule_text.specs.declared.error.ScheduleError.{ScheduleError}
 use Rattle.schedule_text.specs.declared.error.ParseError.{ParseError}
@@ -24,13 +25,35 @@ party_within : (shape : Shape) (word : List ℕ) (who : Sender) → IsParty shap
 party_within shape word sender.Client w = tt
 party_within shape word (sender.Node name) w = (w.in_volume, w.in_group)
 
+digit_small : (c x : ℕ) → IsHexDigit c x → x < 16
+digit_small c x (inl low) = let small = low.0 in omega (arith, small)
+digit_small c x (inr high) = high.1
+
+pair_byte : (first second b : ℕ) → IsPair first second b → b < 256
+pair_byte first second b w =
+    let high = digit_small first w.high w.is_high in
+    let low = digit_small second w.low w.is_low in
+    let value = w.value in
+    omega (arith, high, low, value)
+
+pairs_bytes : (word bytes : List ℕ) → IsPairs word bytes → AllByRecursion (λ b. b < 256) bytes
+pairs_bytes [] [] w = tt
+pairs_bytes [] (b ∷ bytes) w = absurd w
+pairs_bytes (first ∷ []) bytes w = absurd w
+pairs_bytes (first ∷ second ∷ word) [] w = absurd w
+pairs_bytes (first ∷ second ∷ word) (b ∷ bytes) w = (pair_byte first second b w.0, pairs_bytes word bytes w.1)
+
+lie_bytes : (word bytes : List ℕ) → IsLieBytes word bytes → AllByRecursion (λ b. b < 256) bytes
+lie_bytes word bytes (inl hex) = pairs_bytes word bytes hex.pairs
+lie_bytes word bytes (inr dash) = subst (AllByRecursion (λ b. b < 256)) (sym dash.empty) tt
+
 value_within : (shape : Shape) (v : Value) (word : List ℕ) → Spells shape v word → IsWithin shape v
-value_within shape (Number n) word w = tt
+value_within shape (Number n) word w = w.fits
 value_within shape (Count n) word w = w.some
 value_within shape (Node name) word w = (w.in_volume, w.in_group)
 value_within shape (Party who) word w = party_within shape word who w
 value_within shape (Block bytes) word w = block_length shape.block word bytes w
-value_within shape (Bytes bytes) word w = tt
+value_within shape (Bytes bytes) word w = lie_bytes word bytes w
 value_within shape (Fill b) word w = tt
 
 values_within : (shape : Shape) (vs : List Value) (words : List (List ℕ)) → AllZip (Spells shape) vs words → AllByRecursion (IsWithin shape) vs

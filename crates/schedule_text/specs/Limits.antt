@@ -1,5 +1,5 @@
 -- What every schedule of a text keeps to.
-use Rattle.std.specs.Prelude.{◌≡◌, ◌<◌, ◌≤◌, length}
+use Rattle.std.specs.Prelude.{◌≡◌, ◌<◌, ◌≤◌, ◌^◌, length}
 use Rattle.std.specs.List.{AllByRecursion}
 use Rattle.salus_types.specs.Volume.{Shape, IsVolume, regions}
 use Rattle.salus_types.specs.declared.names.NodeName.{NodeName}
@@ -19,12 +19,12 @@ IsPartyOfVolume shape (sender.Node name) = IsOfVolume shape name
 
 -- a value that a word of the volume's language can stand for
 abbrev pub IsWithin : Shape → Value → Type 0
-IsWithin shape (Number n) = Unit {0}
+IsWithin shape (Number n) = n < 2 ^ 64
 IsWithin shape (Count n) = 1 ≤ n
 IsWithin shape (Node name) = IsOfVolume shape name
 IsWithin shape (Party who) = IsPartyOfVolume shape who
 IsWithin shape (Block bytes) = length bytes ≡ shape.block
-IsWithin shape (Bytes bytes) = Unit {0}
+IsWithin shape (Bytes bytes) = AllByRecursion (λ b. b < 256) bytes
 IsWithin shape (Fill b) = Unit {0}
 
 -- the values of an event are of the volume, and a write has 1 to 64 blocks

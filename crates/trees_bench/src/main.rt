@@ -1,15 +1,21 @@
 //! Times the trees of regions, each beside the hashes that it takes: 100,000 blocks put into a kept tree of 256 blocks
 //! of 256 bytes; 200 kept trees built over 1,024 equal blocks of 1,024 bytes, each of another byte; and about 100,000
-//! blocks changed in a pruned tree of 256 blocks, each by a graft, a leaf that is set, and pruning. What came out goes
-//! to standard output, the times to standard error.
+//! blocks changed in a pruned tree of 256 blocks, each by a graft, a leaf that is set, and pruning; and 100,000 records
+//! of one write applied to a view of 256 blocks. What came out goes to standard output, the times to standard error.
 #![tactic(auto)]
 
-ghost use Rattle.std.specs.Prelude.{◌≡◌, ◌<◌, length, IfOk};
+ghost use Rattle.std.specs.Prelude.{◌≡◌, ◌<◌, ◌==◌, length, IfOk, IsTrue};
+ghost use Rattle.std.specs.List.{list_all};
+ghost use Rattle.holding_model.specs.Fitting.{has_shape, record_fits};
 
 use merkle_pruned::Pruned;
 use merkle_region::Tree;
+use region_view::RegionView;
 use salus_hash::{Digest, leaf_digest, node_digest};
-use salus_types::{Blocks, Bytes, Items, NoMemory, Path};
+use salus_types::{
+    Base, Blocks, Bytes, Geometry, Header, Items, NoMemory, Path, PlaceWrite, Record, Records,
+    Writes,
+};
 use std::alloc::Global;
 use std::io;
 use std::rt::Runtime;
@@ -20,6 +26,9 @@ const SETS: u32 = 100_000;
 const BUILDS: u32 = 200;
 /// How often each of the 256 places is grafted.
 const GRAFTS: u32 = 391;
+
+/// Records are made and applied in so many rounds, of 1,000 each.
+const ROUNDS: u32 = 100;
 
 fn block_of(alloc: Global, byte: u8, size: usize) -> Result<Bytes, NoMemory> {
     Ok(Items::from_vec(vec![in alloc; byte; size]?))
@@ -254,8 +263,163 @@ fn time_grafts(rt: &impl Runtime, alloc: Global) -> io::Result<()> {
     println!(rt; "their hashes: {seen}")
 }
 
+fn header_of(alloc: Global, seq: u64, root: Digest) -> Header {
+    Header {
+        version: 1,
+        session: 1,
+        seq,
+        region: 0,
+        previous: 0,
+        leader_before: 0,
+        fronts: Items::new(alloc),
+        touched: Items::new(alloc),
+        root,
+        top: root,
+    }
+}
+
+/// A record that writes this block at a place and names that root.
+fn part_of(alloc: Global, seq: u64, root: Digest, write: PlaceWrite) -> Result<Record, NoMemory> {
+    let mut writes: Writes = Items::new(alloc);
+    writes.push(write)?;
+    Ok(Record {
+        header: header_of(alloc, seq, root),
+        writes,
+        run: None,
+        tag: root,
+    })
+}
+
+/// 1,000 records of one write each, with the roots that the tree then has.
+fn round_of(alloc: Global, tree: &mut Tree, round: u32) -> Result<Records, NoMemory>
+    requires { tree.old.height ≡ 8 }
+    ensures { tree.new.height ≡ 8 }
+{
+    let mut records = Vec::with_capacity(alloc, 1000)?;
+    'records: for i in 0u32..1000 {
+        let number = round.saturating_mul(1000).saturating_add(i);
+        let place = number % 256 * 97 % 256;
+        let mut block = block_of(alloc, 9, 256)?;
+        write_number(&mut block, number);
+        let bytes = Items::from_slice(alloc, block.as_slice())?;
+        let _ = tree.set(place, block);
+        let write = PlaceWrite {
+            place: place as u16,
+            bytes,
+        };
+        records.push(part_of(alloc, u64::from(number) + 1, tree.root(), write)?)?;
+    }
+    Ok(Items::from_vec(records))
+}
+
+/// Whether the record has one write, which fits.
+#[tactic(auto, unfolding(holding_model::specs::Fitting::record_fits, holding_model::specs::Fitting::ascends_from))]
+fn is_one_write(geometry: &Geometry, rec: &Record) -> bool
+    ensures { IsTrue result → IsTrue (record_fits geometry.now rec.now) }
+{
+    if rec.run.is_some() {
+        return false;
+    }
+    match rec.writes.as_slice() {
+        [write] => {
+            u32::from(write.place) < geometry.region_blocks()
+                && write.bytes.len() == geometry.block_size() as usize
+        }
+        _ => false,
+    }
+}
+
+/// Applies the records; how many of them were applied.
+fn apply_all(alloc: Global, view: &mut RegionView, records: &[Record]) -> u32 {
+    let mut applied: u32 = 0;
+    for rec in records {
+        if is_one_write(view.geometry(), rec) && view.apply(alloc, rec).is_ok() {
+            applied = applied.saturating_add(1);
+        }
+    }
+    applied
+}
+
+fn each_sized(blocks: &[Bytes], size: u32) -> bool
+    ensures { result ≡ list_all (λ x. length x == size) blocks.now }
+{
+    blocks.iter().all(|block| block.len() == size as usize)
+}
+
+#[tactic(auto, unfolding(holding_model::specs::Fitting::has_shape))]
+fn has_shape(geometry: &Geometry, blocks: &[Bytes]) -> bool
+    ensures { result ≡ has_shape geometry.now blocks.now }
+{
+    blocks.len() == geometry.region_blocks() as usize && each_sized(blocks, geometry.block_size())
+}
+
+/// The view of a region of 256 equal blocks of 256 bytes.
+fn first_view(alloc: Global) -> Result<Option<RegionView>, NoMemory> {
+    let Ok(geometry) = Geometry::new(0, 8, 256, 1) else {
+        return Ok(None);
+    };
+    let zero = leaf_digest(b"");
+    let base = Base {
+        rec: Record {
+            header: header_of(alloc, 0, zero),
+            writes: Items::new(alloc),
+            run: None,
+            tag: zero,
+        },
+        blocks: blocks_of(alloc, 7, 256, 256)?,
+    };
+    if !has_shape(&geometry, base.blocks.as_slice()) {
+        return Ok(None);
+    }
+    Ok(Some(RegionView::new(alloc, &geometry, &base)?))
+}
+
+/// Applies records round by round. The making of the records isn't timed.
+fn apply_rounds(
+    rt: &impl Runtime,
+    alloc: Global,
+    mut view: RegionView,
+    mut tree: Tree,
+) -> io::Result<()>
+    requires { tree.height ≡ 8 }
+{
+    let mut total = Duration::ZERO;
+    let mut applied: u32 = 0;
+    'rounds: for round in 0..ROUNDS {
+        let Ok(records) = round_of(alloc, &mut tree, round) else {
+            return Ok(());
+        };
+        let start = Instant::now(rt)?;
+        let more = apply_all(alloc, &mut view, records.as_slice());
+        total = total.saturating_add(start.elapsed(rt)?);
+        applied = applied.saturating_add(more);
+    }
+    print_time(rt, "applies", total)?;
+    let same = view.root() == tree.root();
+    println!(rt;
+        "after {applied} applies: {}, number {}, {same}",
+        first_byte(&view.root()),
+        view.number()
+    )
+}
+
+fn time_applies(rt: &impl Runtime, alloc: Global) -> io::Result<()> {
+    let (Ok(Some(view)), Ok(blocks)) = (first_view(alloc), blocks_of(alloc, 7, 256, 256)) else {
+        return Ok(());
+    };
+    let (Ok(tree), Ok(mut block)) = (Tree::build(alloc, 8, blocks), block_of(alloc, 9, 256)) else {
+        return Ok(());
+    };
+    apply_rounds(rt, alloc, view, tree)?;
+    let start = Instant::now(rt)?;
+    let seen = hash_paths(&mut block, 8, SETS);
+    print_time(rt, "apply hashes", start.elapsed(rt)?)?;
+    println!(rt; "their hashes: {seen}")
+}
+
 fn main(rt: HostRuntime) -> io::Result<()> {
     time_sets(&rt, rt.alloc())?;
     time_builds(&rt, rt.alloc())?;
-    time_grafts(&rt, rt.alloc())
+    time_grafts(&rt, rt.alloc())?;
+    time_applies(&rt, rt.alloc())
 }

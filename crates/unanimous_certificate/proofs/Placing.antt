@@ -7,16 +7,11 @@ use Rattle.salus_types.specs.Volume.{Shape, regions, nodes}
 use Rattle.salus_types.specs.declared.names.NodeName.{NodeName}
 use Rattle.volume_model.specs.Groups.{same_node}
 use Rattle.replica_rules.specs.Voting.{Vote, no_votes, share_place, is_above_vote, with_vote, greater, with_claim}
-use Rattle.replica_rules.proofs.Elements.{by_bool}
 use Rattle.unanimous_certificate.specs.Kept.{KeptVotes, KeptClaims, node_place, vote_place, votes_in, claims_in}
+use Rattle.list_lemmas.proofs.Tests.{by_bool, same_test}
 
 pub same_function : {A B : Type 0} (f g : A → B) → ((x : A) → f x ≡ g x) → f ≡ g
 same_function f g h = λ i x. h x i
-
-pub same_test : (a b : Bool) → (a ≡ true → b ≡ true) → (b ≡ true → a ≡ true) → a ≡ b
-same_test true b to back = sym (to refl)
-same_test false true to back = back refl
-same_test false false to back = refl
 
 -- ---- places
 

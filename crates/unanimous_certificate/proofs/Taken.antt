@@ -6,7 +6,7 @@ use Rattle.salus_types.specs.declared.names.NodeName.{NodeName}
 use Rattle.merkle_region.specs.Tree.{IsAmong}
 use Rattle.volume_model.specs.Groups.{same_node}
 use Rattle.replica_rules.specs.Voting.{Vote, Votes, no_votes, share_place, is_above_vote, with_vote, Claims, greater, with_claim}
-use Rattle.replica_rules.proofs.Elements.{by_bool, way_with, and_left}
+use Rattle.list_lemmas.proofs.Tests.{by_bool, way_with, and_left}
 
 -- ---- one step
 

@@ -1,5 +1,5 @@
 -- The choice of the definition, which looks at the headers in the order of arrival, is that of a search from the greatest downwards.
-use Rattle.std.proofs.Common.{◌≡◌, ℕ, zero, suc, ◌∙◌, ◌⊎◌, Bool, true, false, ◌&&◌, cond, List, [], ◌∷◌, length, take, Some, None, Option, MatchOption, inl, inr, refl, sym, ap, subst, arith}
+use Rattle.std.proofs.Common.{◌≡◌, ℕ, zero, suc, ◌∙◌, Bool, true, false, ◌&&◌, cond, List, [], ◌∷◌, take, Some, None, Option, inl, inr, refl, sym, ap, subst}
 use Rattle.std.specs.Prelude.{fold, slice_get, option_map, is_some}
 use Rattle.std.proofs.lemmas.Bool.{and_from, and_left, and_right, and_parts, cond-true, cond-false, cases_Bool, false≢true}
 use Rattle.std.proofs.lemmas.Option.{none-some, same_Some}
@@ -10,11 +10,11 @@ use Rattle.volume_model.specs.Recovering.{Pool, is_above, better_of, is_recovera
 use Rattle.client_rules.specs.Opening.{joined_blocks}
 use Rattle.restart_pool.specs.Kept.{Kept}
 use Rattle.restart_pool.specs.Assembled.{contents_of, joined, pool_strings, session_strings}
-use Rattle.restart_pool.proofs.Members.{among_flat_map-in}
 use Rattle.merkle_region.proofs.Membership.{none-within}
-use Rattle.volume_restart.specs.Choosing.{choice_by, choice_of_header, chosen, is_below, is_like, IsFirstLike, IsNext, NoneLike}
+use Rattle.volume_restart.specs.Choosing.{choice_of_header, chosen, is_below, IsFirstLike, IsNext, NoneLike}
 use Rattle.volume_restart.specs.declared.choice.Choice.{Choice}
 use Rattle.volume_restart.proofs.Ordering.{alike, above-like, above-by, like-sym}
+use Rattle.list_lemmas.proofs.Members.{among_flat_map-in}
 
 module _ (shape : Shape) (pool : Pool) where
   abbrev better : Option Header → Header → Option Header
@@ -66,11 +66,6 @@ is_none f (Some x) e = absurd (none-some (f x) (sym e))
 some_is : {A B : Type 0} (f : A → B) (o : Option A) (y : B) → Some y ≡ option_map f o → is_some o ≡ true
 some_is f None y e = absurd (none-some y (sym e))
 some_is f (Some x) y e = refl
-
-get_among : {A : Type 0} (xs : List A) (i : ℕ) (x : A) → slice_get xs i ≡ Some x → IsAmong x xs
-get_among [] i x e = absurd (none-some x e)
-get_among (y ∷ xs) zero x e = inl (sym (same_Some y x e))
-get_among (y ∷ xs) (suc i) x e = inr (get_among xs i x e)
 
 all_of : {A : Type 0} (xs : List A) (i : ℕ) (x : A) → IsAmong x (take i xs) → IsAmong x xs
 all_of [] zero x m = absurd m

@@ -1,10 +1,9 @@
 -- The search from the greatest downwards ends: fewer headers are below at each step.
-use Rattle.std.proofs.Common.{◌≡◌, ℕ, ◌<◌, ◌≤◌, ◌∙◌, Bool, true, false, cond, List, [], ◌∷◌, length, None, Some, Option, inl, inr, refl, sym, ap, subst, arith}
+use Rattle.std.proofs.Common.{◌≡◌, ℕ, ◌<◌, ◌≤◌, ◌∙◌, Bool, true, false, cond, List, [], ◌∷◌, length, None, Some, Option, inl, inr, refl, sym, subst, arith}
 use Rattle.std.specs.Prelude.{filter}
-use Rattle.std.proofs.lemmas.Bool.{cases_Bool, cond-true, cond-false, false≢true}
+use Rattle.std.proofs.lemmas.Bool.{false≢true}
 use Rattle.salus_types.specs.declared.records.Header.{Header}
 use Rattle.merkle_region.specs.Tree.{IsAmong}
-use Rattle.volume_model.specs.Recovering.{is_above}
 use Rattle.volume_restart.specs.Choosing.{is_below, IsNext}
 use Rattle.volume_restart.proofs.Ordering.{above-trans, itself}
 

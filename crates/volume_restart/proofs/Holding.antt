@@ -1,15 +1,14 @@
 -- What a pool keeps after some of the bases and parts of a node were added.
-use Rattle.std.proofs.Common.{◌≡◌, ℕ, ◌+◌, ◌<◌, ◌≤◌, ◌∙◌, Bool, true, false, cond, List, [], ◌∷◌, ◌++◌, length, map, take, get_or, refl, sym, ap, subst}
+use Rattle.std.proofs.Common.{◌≡◌, ℕ, ◌+◌, ◌<◌, ◌≤◌, ◌∙◌, Bool, true, false, List, [], ◌∷◌, ◌++◌, length, map, take, get_or, refl, sym, ap}
 use Rattle.std.specs.Prelude.{filter}
 use Rattle.std.proofs.lemmas.Bool.{cond-true, cond-false}
 use Rattle.std.proofs.lemmas.List.{append_assoc, map-append, append-nil, take_all, take_more}
 use Rattle.std.proofs.lemmas.List.Elements.{filter-append}
-use Rattle.salus_types.specs.Volume.{Shape}
 use Rattle.salus_types.specs.declared.records.Header.{Header}
 use Rattle.salus_types.specs.declared.records.Record.{Record}
 use Rattle.salus_types.specs.declared.records.Base.{Base}
 use Rattle.salus_types.specs.declared.records.Held.{Held}
-use Rattle.volume_model.specs.Recovering.{Pool, base_counts, record_counts}
+use Rattle.volume_model.specs.Recovering.{base_counts, record_counts}
 use Rattle.client_rules.specs.Opening.{with_held}
 use Rattle.restart_pool.specs.Kept.{Kept, with_base, with_part}
 

@@ -1,6 +1,6 @@
 -- The greatest of the headers that are below, one header on.
-use Rattle.std.proofs.Common.{◌≡◌, ◌⊎◌, ◌∙◌, Bool, true, false, ◌&&◌, cond, List, [], None, Some, Option, MatchOption, inl, inr, refl, sym, subst}
-use Rattle.std.proofs.lemmas.Bool.{and_parts, and_cases, cases_Bool, false≢true}
+use Rattle.std.proofs.Common.{◌≡◌, ◌⊎◌, ◌∙◌, Bool, true, false, ◌&&◌, cond, List, [], None, Some, Option, inl, inr, refl, sym, subst}
+use Rattle.std.proofs.lemmas.Bool.{false≢true}
 use Rattle.salus_types.specs.declared.records.Header.{Header}
 use Rattle.merkle_region.specs.Tree.{IsAmong}
 use Rattle.volume_model.specs.Recovering.{is_above}

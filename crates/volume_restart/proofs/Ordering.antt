@@ -1,6 +1,6 @@
 -- The order of headers: by session, and then by number.
-use Rattle.std.proofs.Common.{◌≡◌, ℕ, ◌<◌, ◌≤◌, ◌∙◌, ◌⊎◌, Bool, true, false, ◌==◌, ◌&&◌, ◌||◌, nat_lt, Some, None, Option, inl, inr, refl, sym, ap, arith}
-use Rattle.std.proofs.lemmas.Bool.{ltb-true, ltb-false, eqb-true, eqb-false, eq-eqb, lt-ltb, le-ltb, ne_eqb, and_parts, and_from, or_cases, or_parts, or_left, or_right, or_from, and_cases, false≢true, cases_Bool, false_from_ne_true, cases_order}
+use Rattle.std.proofs.Common.{◌≡◌, ◌<◌, ◌∙◌, ◌⊎◌, true, false, ◌==◌, ◌&&◌, nat_lt, Some, inl, inr, sym, arith}
+use Rattle.std.proofs.lemmas.Bool.{ltb-true, eqb-true, eq-eqb, lt-ltb, and_parts, and_from, or_cases, or_left, or_right, false≢true, false_from_ne_true, cases_order}
 use Rattle.salus_types.specs.declared.records.Header.{Header}
 use Rattle.volume_model.specs.Recovering.{is_above}
 use Rattle.volume_restart.specs.Choosing.{is_like}

@@ -1,4 +1,3 @@
-use Rattle.std.proofs.Common.{◌≡◌, ℕ}
 use Rattle.std.specs.Prelude.{option_copied}
 use Rattle.restart_pool.specs.Following.{seen}
 use Rattle.restart_pool.proofs.Walking.{IsWalked, below}

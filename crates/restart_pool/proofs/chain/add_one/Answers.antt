@@ -1,8 +1,7 @@
-use Rattle.std.proofs.Common.{◌≡◌, ◌∙◌, ◌&&◌, ◌<◌, ◌++◌, ◌∷◌, [], nat_lt, true, false, Some, ap, sym, subst, get_or, rules}
+use Rattle.std.proofs.Common.{◌≡◌, ◌∙◌, ◌&&◌, nat_lt, true, false, Some, ap, sym, subst, get_or, rules}
 use Rattle.std.specs.Prelude.{slice_get, option_copied}
 use Rattle.std.proofs.lemmas.Bool.{and_parts, ltb-true}
 use Rattle.std.proofs.lemmas.Option.{slice_get-get_or, get_or_from_slice_get}
-use Rattle.merkle_region.specs.Tree.{IsAmong}
 use Rattle.salus_types.specs.declared.records.Record.{Record}
 use Rattle.holding_model.specs.Fitting.{has_content}
 use Rattle.volume_model.specs.Recovering.{is_of}

@@ -1,5 +1,4 @@
-use Rattle.std.proofs.Common.{◌<◌, length, rules}
-use Rattle.merkle_region.specs.Tree.{IsAmong}
+use Rattle.std.proofs.Common.{rules}
 use Rattle.restart_pool.specs.declared.chain.Way.{Way}
 use Rattle.restart_pool.specs.Following.{seen, NoneStarts, later_of}
 use Rattle.restart_pool.proofs.Taken.{each_more, each_all, item_among}

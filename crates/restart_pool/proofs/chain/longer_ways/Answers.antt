@@ -1,8 +1,7 @@
-use Rattle.std.proofs.Common.{◌+◌, take, [], rules}
-use Rattle.restart_pool.specs.declared.chain.Way.{Way}
+use Rattle.std.proofs.Common.{◌+◌, take}
 use Rattle.restart_pool.specs.Following.{seen}
 use Rattle.restart_pool.proofs.Lengthening.{longer-none}
-use Rattle.restart_pool.proofs.Taken.{taken_more, among_next, item_taken, each_all}
+use Rattle.restart_pool.proofs.Taken.{taken_more, among_next, item_taken}
 use Rattle.restart_pool.proofs.Rounds.{longer-on, longer-all}
 use Rattle.restart_pool.proofs.chain.longer_ways.Goals as goal
 

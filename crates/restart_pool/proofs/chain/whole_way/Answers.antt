@@ -1,6 +1,4 @@
-use Rattle.std.proofs.Common.{◌<◌, length, rules}
-use Rattle.merkle_region.specs.Tree.{IsAmong}
-use Rattle.salus_types.specs.declared.records.Base.{Base}
+use Rattle.std.proofs.Common.{rules}
 use Rattle.restart_pool.specs.Following.{seen, NotBegun}
 use Rattle.restart_pool.proofs.Taken.{each_more, each_all, item_among}
 use Rattle.restart_pool.proofs.chain.whole_way.Goals as goal

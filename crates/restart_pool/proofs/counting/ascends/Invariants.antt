@@ -1,4 +1,4 @@
-use Rattle.std.proofs.Common.{◌≡◌, ◌≤◌, map, drop}
+use Rattle.std.proofs.Common.{◌≡◌, map, drop}
 use Rattle.salus_types.specs.declared.records.PlaceWrite.{PlaceWrite}
 use Rattle.holding_model.specs.Fitting.{ascends_from}
 use Rattle.restart_pool.proofs.counting.ascends.Given as goal

@@ -1,4 +1,4 @@
-use Rattle.std.proofs.Common.{◌≡◌, ◌+◌, ◌∙◌, drop, ap, sym}
+use Rattle.std.proofs.Common.{◌+◌, ◌∙◌, drop, ap, sym}
 use Rattle.holding_model.specs.Fitting.{blocks_written}
 use Rattle.restart_pool.proofs.Ascending.{written-on, written-end}
 use Rattle.restart_pool.proofs.replay.put_writes.Goals as goal

@@ -1,7 +1,6 @@
-use Rattle.std.proofs.Common.{◌≡◌, ◌∙◌, Some, ap, refl, sym, subst, List, ℕ}
+use Rattle.std.proofs.Common.{◌∙◌, ap, refl, sym, subst}
 use Rattle.std.specs.Prelude.{option_map, IfSome}
 use Rattle.restart_pool.specs.Assembled.{IsRecovered}
-use Rattle.volume_restart.specs.declared.choice.Choice.{Choice}
 use Rattle.volume_restart.proofs.Chosen.{apart, with_contents}
 use Rattle.volume_restart.proofs.choice.choice_by.Goals as goal
 

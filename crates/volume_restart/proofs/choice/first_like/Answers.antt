@@ -1,4 +1,4 @@
-use Rattle.std.proofs.Common.{◌≡◌, List, Some, take, refl, subst}
+use Rattle.std.proofs.Common.{◌≡◌, Some, take, refl, subst}
 use Rattle.std.specs.Prelude.{slice_get, IfSome}
 use Rattle.std.proofs.lemmas.Option.{MatchOption-at_some, MatchOption-at_none, slice_get_read}
 use Rattle.salus_types.specs.declared.records.Header.{Header}

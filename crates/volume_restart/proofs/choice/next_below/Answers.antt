@@ -1,4 +1,4 @@
-use Rattle.std.proofs.Common.{◌≡◌, ◌+◌, List, take, subst}
+use Rattle.std.proofs.Common.{◌+◌, List, take, subst}
 use Rattle.std.specs.Prelude.{option_copied}
 use Rattle.std.proofs.lemmas.List.{take_all}
 use Rattle.salus_types.specs.declared.records.Header.{Header}

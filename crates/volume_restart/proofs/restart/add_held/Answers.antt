@@ -1,4 +1,4 @@
-use Rattle.std.proofs.Common.{◌≡◌, ◌∙◌, ◌+◌, List, take, ap, sym, subst}
+use Rattle.std.proofs.Common.{◌≡◌, ◌∙◌, ◌+◌, List, take, ap, subst}
 use Rattle.salus_types.specs.declared.records.Base.{Base}
 use Rattle.salus_types.specs.declared.records.Record.{Record}
 use Rattle.restart_pool.specs.Kept.{Kept, with_base, with_part}

@@ -1,4 +1,4 @@
-use Rattle.std.proofs.Common.{◌≡◌, ◌+◌, subst}
+use Rattle.std.proofs.Common.{subst}
 use Rattle.std.proofs.lemmas.Option.{MatchOption-at_some}
 use Rattle.merkle_region.specs.Tree.{IsAmong}
 use Rattle.volume_model.specs.Recovering.{blocks_up_to}

@@ -1,4 +1,3 @@
-use Rattle.std.proofs.Common.{MatchOption}
 use Rattle.std.proofs.lemmas.Result.{IfOk-weaker}
 use Rattle.restart_pool.specs.Following.{seen}
 use Rattle.restart_pool.proofs.Single.{found-up_to}

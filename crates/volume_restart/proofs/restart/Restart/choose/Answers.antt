@@ -1,5 +1,3 @@
-use Rattle.std.proofs.Common.{◌≡◌, sym}
-use Rattle.std.proofs.lemmas.Result.{IfOk-weaker}
 use Rattle.volume_restart.proofs.restart.Restart.choose.Goals as goal
 
 pub returns-clause-exact : goal.returns-clause-exact

@@ -1,0 +1,10 @@
+pub mod Written
+pub mod Regional
+pub mod Numbered
+pub mod Owned
+pub mod Growing
+pub mod Settled
+pub mod Judged
+pub mod Named
+pub mod Quiet
+pub mod WellSent

@@ -1,0 +1,5 @@
+pub mod Tests
+pub mod Lists
+pub mod Each
+pub mod Members
+pub mod SameRoots

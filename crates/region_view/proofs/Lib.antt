@@ -1,0 +1,5 @@
+pub mod Written
+pub mod Putting
+pub mod Bringing
+pub mod Shaping
+pub mod Trying

@@ -1,0 +1,4 @@
+pub mod CallerLemmas
+pub mod Opened
+pub mod Places
+pub mod Verdicts
