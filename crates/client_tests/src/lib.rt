@@ -7,4 +7,6 @@ mod reads;
 #[cfg(test)]
 mod restarts;
 #[cfg(test)]
+mod waiting;
+#[cfg(test)]
 mod windows;
