@@ -1,0 +1,4 @@
+pub mod Unasked
+pub mod Phases
+pub mod Strings
+pub mod Along

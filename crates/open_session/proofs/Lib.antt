@@ -1,0 +1,11 @@
+mod Sent
+mod ClaimWay
+mod Fitting
+mod Staying
+mod Greatest
+mod Noting
+mod VotesTaken
+mod Adding
+mod Trying
+mod AsksTold
+mod Sessions

@@ -1,0 +1,9 @@
+pub mod Kept
+pub mod Standing
+pub mod Applying
+pub mod Turning
+pub mod Voting
+pub mod Claiming
+pub mod Folding
+pub mod Opening
+pub mod Asking

@@ -1,0 +1,9 @@
+pub mod Holding
+pub mod Loading
+pub mod Starting
+pub mod Witness
+pub mod Keeping
+pub mod Readying
+pub mod Saying
+pub mod Carrying
+pub mod Staging
