@@ -1,0 +1,4 @@
+pub mod CallerLemmas
+pub mod Questions
+pub mod Standing
+pub mod Judged

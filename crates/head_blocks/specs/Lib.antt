@@ -1,0 +1,4 @@
+pub mod Headed
+pub mod Advancing
+pub mod Weighing
+pub mod Ending
