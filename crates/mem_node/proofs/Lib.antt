@@ -1,0 +1,4 @@
+pub mod Readable
+pub mod Answering
+pub mod Fresh
+pub mod Uniform

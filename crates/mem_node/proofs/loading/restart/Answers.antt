@@ -1,0 +1,14 @@
+use Rattle.std.proofs.Common.{subst}
+use Rattle.disk_model.specs.declared.memory.MemDisk.{MemDisk}
+use Rattle.disk_model.specs.Disk.{IsImage}
+use Rattle.disk_model.specs.Told.{content_of, now_of}
+use Rattle.mem_node.specs.Knowing.{seen_of}
+use Rattle.mem_node.proofs.Fresh.{loaded_again}
+use Rattle.mem_node.proofs.loading.restart.Goals as goal
+
+pub returns-in-Ok-clause-loaded : goal.returns-in-Ok-clause-loaded
+returns-in-Ok-clause-loaded c = λ shape name known fits.
+    let image = content_of c.crash.new.self in
+    let is = subst (λ (disk : MemDisk). IsImage (now_of disk) image) c.into_disk-disk.ensures c.crash.ensures.image in
+    loaded_again shape name known (seen_of c.args.node) (seen_of c.in-Ok.new) (now_of c.args.node.checkpoint.store.log.disk.disk) image c.geometry-geometry.result c.name-name.result fits fits.images is
+    c.in-Ok.ensures.holds c.geometry-geometry.ensures c.name-name.ensures c.in-Ok.ensures.fresh

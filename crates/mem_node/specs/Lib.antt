@@ -1,0 +1,4 @@
+pub mod Loadable
+pub mod Opened
+pub mod Knowing
+pub mod Fitting
