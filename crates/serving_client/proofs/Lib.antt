@@ -1,0 +1,10 @@
+pub mod Rooms
+pub mod Standings
+pub mod Refusing
+pub mod Leaves
+pub mod Heads
+pub mod Ruling
+pub mod Claims
+pub mod Heard
+pub mod Again
+pub mod Ticked

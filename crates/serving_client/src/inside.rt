@@ -1,0 +1,33 @@
+//! What a serving client keeps, while a call changes it.
+ghost use Rattle.serving_client.specs.Keeping.{HasGivenUp};
+
+use client_pipeline::Pipeline;
+use pruned_volume::PrunedVolume;
+use std::alloc::Global;
+use verified_read::Reads;
+use waiting_line::WaitingLine;
+
+#[derive(Drop)]
+pub struct Core {
+    /// The batches that aren't acknowledged.
+    pub pipeline: Pipeline,
+    /// The pruned trees: what is known for the write at the head.
+    pub trees: PrunedVolume,
+    pub line: WaitingLine,
+    /// The open reads.
+    pub reads: Reads,
+    /// The questions of the head that wait.
+    pub asked: Reads,
+    /// The event of the newest request.
+    pub newest: u64,
+}
+
+/// After an error: no request waits any more.
+pub fn give_up(alloc: Global, core: &mut Core)
+    ensures { HasGivenUp core.old core.new }
+{
+    let geometry = core.pipeline.geometry();
+    core.line = WaitingLine::new(alloc);
+    core.reads = Reads::new(alloc, &geometry);
+    core.asked = Reads::new(alloc, &geometry);
+}
