@@ -1,0 +1,2 @@
+pub mod EqualBlocks
+pub mod Turning
