@@ -24,7 +24,6 @@ use salus_types::{Geometry, NoMemory, NodeName, Sender};
 use std::alloc::Global;
 
 /// A node over a disk in memory.
-#[derive(Drop)]
 pub struct MemNode {
     alloc: Global,
     geometry: Geometry,
@@ -32,6 +31,18 @@ pub struct MemNode {
     // None only after a call that found no memory.
     node: Option<ReplicaNode<MemDisk>>,
     ghost loadable: { ForSome node (λ n. EachImage (now_of n.checkpoint.store.log.disk.disk) CanBeLoaded) } by { Prim.hlevel props },
+}
+
+impl Drop for MemNode {
+    /// Takes the node apart, with its disk: a crate that has a list of nodes drops each by this call.
+    fn drop(self) {
+        let MemNode {
+            alloc: _,
+            geometry: _,
+            name: _,
+            node: _node,
+        } = self;
+    }
 }
 
 impl MemNode {

@@ -57,7 +57,10 @@ goes_follows posts n (e ∷ events) was now goes all =
       steps = one.here ++ more.steps;
       trace = more.trace ∙ (ap (λ (l : List TraceStep). l ++ more.steps) one.trace ∙ append_assoc was.trace one.here more.steps);
       follows = (
-        one.here, more.steps, refl, one.done,
+        one.here,
+        more.steps,
+        refl,
+        one.done,
         subst (λ (l : List ℕ). FollowsFrom posts (reverse one.here ++ reverse was.trace) l (n + 1) events more.steps) one.dropped
             (subst (λ (l : List TraceStep). FollowsFrom posts l mid.dropped (n + 1) events more.steps) back more.follows),
       );

@@ -1,0 +1,233 @@
+-- A `settle` goes on and ends, and so does a run.
+use Rattle.std.proofs.Common.{◌≡◌, ◌∙◌, ◌⊎◌, inl, inr, ℕ, zero, suc, ◌+◌, ◌-◌, ◌^◌, ◌<◌, ◌≤◌, Bool, true, false, nat_lt, if◌then◌else◌, List, [], ◌∷◌, ◌++◌, length, reverse, slice_get, Option, None, Some, refl, sym, ap, subst, append-nil, length-append, arith}
+use Rattle.std.specs.Prelude.{option_to_list}
+use Rattle.std.specs.List.{AllByRecursion}
+use Rattle.salus_types.specs.Volume.{IsVolume, nodes}
+use Rattle.schedule_text.specs.Limits.{IsPartyOfVolume}
+use Rattle.schedule_text.specs.Grammar.{session_of, sessions_of}
+use Rattle.client_rules.specs.Rules.{new_client}
+use Rattle.client_premises.specs.Behind.{Behind, ClientStepsBehind, LinesBehind}
+use Rattle.run_rules.specs.Running.{known_of, AllSteps}
+use Rattle.run_rules.specs.Calm.{is_harmed, CalmFrom}
+use Rattle.law_ranged.proofs.Opened.{new_fits}
+use Rattle.list_lemmas.proofs.Each.{all_split}
+use Rattle.client_node.specs.Standing.{IsClient, shape_of, newest_of}
+use Rattle.run_steps.proofs.Marking.{none_marked}
+use Rattle.salus_world.specs.Places.{AreFormatted}
+use Rattle.salus_world.proofs.Seats.{formatted_fit, formatted_sure}
+use Rattle.std.proofs.lemmas.Bool.{lt-ltb}
+use Rattle.std.proofs.lemmas.List.{length-map, length_push}
+use Rattle.salus_types.specs.declared.names.Sender.{Sender}
+use Rattle.schedule_text.specs.declared.schedule.Volume.{Volume}
+use Rattle.schedule_text.specs.declared.schedule.Event.{Event}
+use Rattle.schedule_text.specs.declared.schedule.Event.TheVariants as event
+use Rattle.printed_lines.specs.declared.line.Line.{Line}
+use Rattle.salus_model.specs.declared.sending.Sent.{Sent}
+use Rattle.salus_model.specs.declared.trace.Handed.TheVariants as handed
+use Rattle.salus_model.specs.declared.trace.TraceStep.{TraceStep}
+use Rattle.salus_model.specs.Judge.{event_at}
+use Rattle.salus_model.specs.Following.{Posted, posted, posts_of, sent_by, next_waiting}
+use Rattle.run_course.specs.Course.{Course, Goes, IsEvent, no_course, sent_so_far}
+use Rattle.run_course.proofs.Going.{goes_push, goes_none}
+use Rattle.list_lemmas.proofs.Lists.{get_after}
+use Rattle.run_steps.specs.Steps.{IsFront, with_step}
+use Rattle.run_steps.specs.Waiting.{AreMarked}
+use Rattle.run_steps.specs.Settling.{Settled}
+use Rattle.run_steps.proofs.Fronts.{whole_front, front_along}
+use Rattle.run_steps.proofs.Marking.{passed_on, next_is, next_none}
+use Rattle.run_steps.proofs.Eventing.{none_settled, settled_push, settled_event}
+use Rattle.salus_world.specs.declared.world.World.{World}
+use Rattle.salus_world.specs.Growing.{mark_of, marks_of}
+use Rattle.salus_world.specs.Kept.{IsKept, HasStepped, HasSettled, HasDone, HasRun, StepsAt, Does}
+use Rattle.salus_world.specs.Runs.{Runs}
+use Rattle.salus_world.proofs.Doing.{quiet_kept, next_kept, same_front}
+use Rattle.salus_world.proofs.NodeSteps.{posted_index}
+
+some_at : {A : Type 0} (xs : List A) (i : ℕ) → i < length xs → (x : A) × (slice_get xs i ≡ Some x)
+some_at [] i inside = absurd (omega arith)
+some_at (x ∷ xs) zero inside = (x, refl)
+some_at (x ∷ xs) (suc i) inside = some_at xs i (omega arith)
+
+-- ---- settling
+
+module _ (volume : Volume) (all : List Event) (n : ℕ) (was : World) (c : Course) where
+  pub nothing_settled : IsKept volume all n n was c → HasSettled volume all n 0 was was c
+  nothing_settled kept = record {
+    course = c;
+    more = whole_front (posts_of was.sent.items);
+    settled = λ posts front. none_settled posts n c;
+    kept = kept;
+  }
+
+  -- the messages that wait are looked for
+  module _ (done : ℕ) (now mid : World) (s : HasSettled volume all n done was now c) (sent : mid.sent.items ≡ now.sent.items) (nodes : mid.nodes.items ≡ now.nodes.items) (client : mid.client ≡ now.client)
+      (lines : mid.lines.items ≡ now.lines.items) (geometry : mid.geometry ≡ now.geometry) (passed : (k : ℕ) → now.lowest ≤ k → k < mid.lowest → slice_get (marks_of now.sent.items) k ≡ Some true) where
+    marked : AreMarked (reverse s.course.trace) s.course.dropped mid.lowest (marks_of now.sent.items)
+    marked = passed_on (reverse s.course.trace) s.course.dropped now.lowest (marks_of now.sent.items) s.kept.marked mid.lowest passed
+
+    mid_kept : IsKept volume all n n mid s.course
+    mid_kept =
+        quiet_kept volume all n n now mid s.course s.course.dropped s.course.lines s.kept (ap posts_of sent)
+        (subst (λ (l : List Sent). AreMarked (reverse s.course.trace) s.course.dropped mid.lowest (marks_of l)) (sym sent) marked) nodes client (lines ∙ s.kept.lines) geometry
+
+    count : sent_by (reverse s.course.trace) ≡ length (marks_of now.sent.items)
+    count = s.kept.count ∙ sym (length-map now.sent.items mark_of)
+
+    pub mid_settled : HasSettled volume all n done was mid c
+    mid_settled = record {
+      course = s.course;
+      more = front_along (posts_of was.sent.items) (posts_of now.sent.items) (posts_of mid.sent.items) s.more (same_front (posts_of now.sent.items) (posts_of mid.sent.items) (ap posts_of sent));
+      settled = λ posts front. s.settled posts (subst (λ (l : List Posted). IsFront l posts) (ap posts_of sent) front);
+      kept = mid_kept;
+    }
+
+    -- the next one is delivered
+    pub one_settled : (later : World) → mid.lowest < length now.sent.items → slice_get (marks_of now.sent.items) mid.lowest ≡ Some false → StepsAt mid.lowest mid later → HasSettled volume all n (done + 1) was later c
+    unfolding mid_settled
+    one_settled later inside waits steps =
+        let i : ℕ = mid.lowest in
+        let long = length-map mid.sent.items posted in
+        let same = ap length sent in
+        let at = some_at (posts_of mid.sent.items) i (omega (arith, inside, long, same)) in
+        let m : Posted = at.0 in
+        let one : HasStepped volume all n n m.to (handed.Deliver (i + 1)) mid later s.course = steps volume all n n s.course m mid_kept at.1 in
+        let lowest : next_waiting (reverse s.course.trace) s.course.dropped ≡ Some (i + 1) =
+        next_is (reverse s.course.trace) s.course.dropped i (marks_of now.sent.items) marked count (let marks = length-map now.sent.items mark_of in omega (arith, inside, marks)) waits in
+        record {
+          course = with_step s.course one.step one.said;
+          more = front_along (posts_of was.sent.items) (posts_of mid.sent.items) (posts_of later.sent.items) mid_settled.more one.more;
+          settled = λ posts front.
+              let before : IsFront (posts_of mid.sent.items) posts = front_along (posts_of mid.sent.items) (posts_of later.sent.items) posts one.more front in
+              settled_push posts n done c s.course one.step one.said (mid_settled.settled posts before) one.number
+              (record { k = i + 1; lowest = lowest; message = m; known = posted_index (posts_of mid.sent.items) posts i m before at.1; is_step = one.is_step posts front });
+          kept = one.kept;
+        }
+
+    -- none is left
+    pub all_settled : (number : ℕ) → length now.sent.items ≤ mid.lowest → done ≤ number → n < 2 ^ 32 → HasDone volume all n (event.Settle number) was mid c
+    unfolding mid_settled
+    all_settled number none few low =
+        let left : next_waiting (reverse s.course.trace) s.course.dropped ≡ None =
+        next_none (reverse s.course.trace) s.course.dropped mid.lowest (marks_of now.sent.items) marked count (let marks = length-map now.sent.items mark_of in omega (arith, none, marks)) in
+        record {
+          course = s.course;
+          more = mid_settled.more;
+          event = λ posts front. settled_event posts n number done c s.course (mid_settled.settled posts front) few (inr left);
+          kept = next_kept volume all n n mid s.course mid_kept mid_kept.some (omega arith) (omega (arith, low));
+        }
+
+  -- as many as wanted
+  pub enough_settled : (done number : ℕ) (now : World) → HasSettled volume all n done was now c → done ≡ number → n < 2 ^ 32 → HasDone volume all n (event.Settle number) was now c
+  enough_settled done number now s same low = record {
+    course = s.course;
+    more = s.more;
+    event = λ posts front. settled_event posts n number done c s.course (s.settled posts front) (omega (arith, same)) (inl same);
+    kept = next_kept volume all n n now s.course s.kept s.kept.some (omega arith) (omega (arith, low));
+  }
+
+-- ---- a run
+
+pub event_here : (before rest : List Event) (e : Event) (n : ℕ) → n ≡ length before + 1 → event_at (before ++ e ∷ rest) n ≡ Some e
+event_here before rest e n is =
+    ap (λ (b : Bool). if b then slice_get (before ++ e ∷ rest) (n - 1) else None) (lt-ltb 0 n (omega (arith, is)))
+    ∙ (ap (λ (k : ℕ). slice_get (before ++ e ∷ rest) k) (omega (arith, is)) ∙ get_after before rest e)
+
+module _ (volume : Volume) (all : List Event) where
+  pub none_run : (world : World) → IsKept volume all 1 1 world no_course → HasRun volume all [] world
+  none_run world kept = record { course = no_course; goes = λ posts front. goes_none posts 1 no_course; kept = kept }
+
+  pub one_run : (events : List Event) (e : Event) (n : ℕ) (mid now : World) → HasRun volume all events mid → n ≡ length events + 1 → n < 2 ^ 32 → event_at all n ≡ Some e → Does n e mid now
+      → HasRun volume all (events ++ e ∷ []) now
+  one_run events e n mid now r is low at does =
+      let done : HasDone volume all n e mid now r.course = does volume all r.course low at (subst (λ (k : ℕ). IsKept volume all k k mid r.course) (sym is) r.kept) in
+      let next : n + 1 ≡ length (events ++ e ∷ []) + 1 = (let long = length_push events e in omega (arith, is, long)) in
+      record {
+        course = done.course;
+        goes = λ posts front.
+            goes_push posts 1 events e no_course r.course done.course (r.goes posts (front_along (posts_of mid.sent.items) (posts_of now.sent.items) posts done.more front))
+            (subst (λ (k : ℕ). IsEvent posts k e r.course done.course) (omega (arith, is)) (done.event posts front));
+        kept = subst (λ (k : ℕ). IsKept volume all k k now done.course) next done.kept;
+      }
+
+  pub run_told : (world : World) → HasRun volume all all world → Runs volume all world.lines.items (posts_of world.sent.items)
+  run_told world r =
+      let posts : List Posted = posts_of world.sent.items in
+      let front : IsFront posts posts = whole_front posts in
+      let run = r.kept.runs posts front in
+      record {
+        course = r.course;
+        goes = r.goes posts front;
+        all = r.kept.count ∙ sym (length-map world.sent.items posted);
+        calm = r.kept.calm;
+        nodes = run.made.nodes;
+        client = run.made.client;
+        told = run.made.lines;
+        lines_told = r.kept.lines;
+      }
+
+-- a message that is there, as it was posted
+pub some_posted : (sent : List Sent) (index : ℕ) → index < length sent → (m : Posted) × (slice_get (posts_of sent) index ≡ Some m)
+some_posted sent index inside = let long = length-map sent posted in some_at (posts_of sent) index (omega (arith, inside, long))
+
+-- ---- the next event of a schedule
+
+module _ (all done rest : List Event) (e : Event) (split : all ≡ done ++ e ∷ rest) where
+  pub next_all : (P : Event → Type 0) → AllByRecursion P all → P e
+  next_all P every = (all_split P done (e ∷ rest) (subst (λ (l : List Event). AllByRecursion P l) split every)).1.0
+
+  pub next_unasked : sessions_of all ≡ [] → session_of e ≡ None
+  next_unasked none = found done (sym (ap sessions_of split) ∙ none) where
+    found : (done : List Event) → sessions_of (done ++ e ∷ rest) ≡ [] → session_of e ≡ None
+    found [] here = first (session_of e) (sessions_of rest) here where
+      first : (o : Option ℕ) (l : List ℕ) → option_to_list o ++ l ≡ [] → o ≡ None
+      first None l is = refl
+      first (Some session) l is = absurd (cc)
+    found (x ∷ done) here = found done (behind (option_to_list (session_of x)) (sessions_of (done ++ e ∷ rest)) here) where
+      behind : (xs ys : List ℕ) → xs ++ ys ≡ [] → ys ≡ []
+      behind [] ys is = is
+      behind (x ∷ xs) ys is = absurd (cc)
+
+  pub next_below : length done < length all
+  next_below = let long = ap length split in let both = length-append done (e ∷ rest) in omega (arith, long, both)
+
+  pub next_at : (n : ℕ) → n ≡ length done + 1 → event_at all n ≡ Some e
+  next_at n is = ap (λ (l : List Event). event_at l n) split ∙ event_here done rest e n is
+
+-- ---- the first moment
+
+pub first_kept : (volume : Volume) (all : List Event) (w : World) → IsVolume volume.geometry → AreFormatted volume.geometry volume.key (nodes volume.geometry) w.nodes.items
+    → IsClient w.client volume (new_client volume.geometry) → shape_of w.client ≡ volume.geometry → newest_of w.client ≡ 0 → w.sent.items ≡ [] → w.lowest ≡ 0 → w.lines.items ≡ [] → w.geometry ≡ volume.geometry
+    → IsKept volume all 1 1 w no_course
+unfolding AllSteps ClientStepsBehind LinesBehind Behind known_of CalmFrom
+first_kept volume all w limits made client shape newest sent lowest lines geometry =
+    let posts : posts_of w.sent.items ≡ [] = ap posts_of sent in
+    record {
+      limits = limits;
+      some = omega arith;
+      few = omega arith;
+      runs = λ later front. record {
+        made = record { nodes = λ name. tt; client = tt; lines = refl };
+        nodes_fit = formatted_fit volume.geometry volume.key w.nodes.items made;
+        client_is = (client, new_fits volume.geometry limits);
+      };
+      count = sym (ap length sent);
+      within = subst (λ (l : List Posted). AllByRecursion (λ m. IsPartyOfVolume volume.geometry m.from × IsPartyOfVolume volume.geometry m.to) l) (sym posts) tt;
+      marked = subst (λ (k : ℕ). AreMarked [] [] k (marks_of w.sent.items)) (sym lowest) (subst (λ (l : List Sent). AreMarked [] [] 0 (marks_of l)) (sym sent) none_marked);
+      calm = tt;
+      sure = formatted_sure volume.geometry volume.key w.nodes.items made (is_harmed all [] 1);
+      numbered = tt;
+      lines = lines;
+      geometry = geometry;
+      shape = shape;
+      newest = omega (arith, newest);
+      count_nodes = made.long;
+    }
+
+-- the messages that wait are looked for
+pub lowered_kept : (volume : Volume) (all : List Event) (b n : ℕ) (now mid : World) (c : Course) → IsKept volume all b n now c → mid.sent.items ≡ now.sent.items → mid.nodes.items ≡ now.nodes.items
+    → mid.client ≡ now.client → mid.lines.items ≡ now.lines.items → mid.geometry ≡ now.geometry → ((k : ℕ) → now.lowest ≤ k → k < mid.lowest → slice_get (marks_of now.sent.items) k ≡ Some true)
+    → IsKept volume all b n mid c
+lowered_kept volume all b n now mid c kept sent nodes client lines geometry passed =
+    quiet_kept volume all b n now mid c c.dropped c.lines kept (ap posts_of sent)
+    (subst (λ (l : List Sent). AreMarked (reverse c.trace) c.dropped mid.lowest (marks_of l)) (sym sent)
+    (passed_on (reverse c.trace) c.dropped now.lowest (marks_of now.sent.items) kept.marked mid.lowest passed)) nodes client (lines ∙ kept.lines) geometry

@@ -1,0 +1,28 @@
+use Rattle.std.proofs.Common.{◌≡◌, ◌∙◌, ◌+◌, sym, ap, subst}
+use Rattle.salus_types.specs.Volume.{Shape}
+use Rattle.salus_types.specs.declared.names.Sender.{Sender}
+use Rattle.salus_types.specs.declared.names.Sender.TheVariants as sender
+use Rattle.schedule_text.specs.Limits.{IsPartyOfVolume}
+use Rattle.salus_model.specs.declared.trace.Handed.TheVariants as handed
+use Rattle.salus_model.specs.Following.{Posted}
+use Rattle.salus_world.specs.Kept.{HasStepped}
+use Rattle.salus_world.proofs.Acting.{message_within, same_message}
+use Rattle.salus_world.proofs.world.World.deliver_at.Goals as goal
+
+pub deliver_to_node-requires-clause-of : goal.deliver_to_node-requires-clause-of
+deliver_to_node-requires-clause-of c =
+    let k = c.requires.kept in
+    let m = c.message_at.result.now in
+    subst (λ (p : Sender). IsPartyOfVolume c.args.self.now.geometry p) c.in-Node.is (message_within k.0 k.1 k.2 k.3 c.args.self.now k.4 k.5 c.args.index m c.message_at.ensures).1
+
+pub returns-in_ok-deliver_to_client-in-Client : goal.returns-in_ok-deliver_to_client-in-Client
+returns-in_ok-deliver_to_client-in-Client c = λ volume all b n course m kept at.
+    let old = c.args.self.now in
+    let to : m.to ≡ sender.Client = ap (λ (p : Posted). p.to) (sym (same_message old.sent.items c.args.index c.message_at.result.now m c.message_at.ensures at)) ∙ c.in-Client.is in
+    subst (λ (p : Sender). HasStepped volume all b n p (handed.Deliver (c.args.index + 1)) old c.deliver_to_client.new.self course) (sym to) (c.in_ok-deliver_to_client-in-Client.ensures volume all b n course kept)
+
+pub returns-in_ok-deliver_to_node-in-Node : goal.returns-in_ok-deliver_to_node-in-Node
+returns-in_ok-deliver_to_node-in-Node c = λ volume all b n course m kept at.
+    let old = c.args.self.now in
+    let to : m.to ≡ sender.Node c.in-Node.name = ap (λ (p : Posted). p.to) (sym (same_message old.sent.items c.args.index c.message_at.result.now m c.message_at.ensures at)) ∙ c.in-Node.is in
+    subst (λ (p : Sender). HasStepped volume all b n p (handed.Deliver (c.args.index + 1)) old c.deliver_to_node.new.self course) (sym to) (c.in_ok-deliver_to_node-in-Node.ensures volume all b n course kept)

@@ -1,0 +1,27 @@
+use Rattle.std.proofs.Common.{◌≡◌, ◌∙◌, ◌+◌, List, ℕ, Option, Some, refl, sym, ap}
+use Rattle.salus_types.specs.declared.names.Sender.TheVariants as sender
+use Rattle.salus_model.specs.declared.trace.Handed.TheVariants as handed
+use Rattle.salus_model.specs.Following.{posted}
+use Rattle.replica_rules.specs.Rules.{Receives, Ticks}
+use Rattle.salus_world.specs.declared.world.World.{World}
+use Rattle.salus_world.proofs.Acting.{Posts, answered_kept, marks_set, input_at}
+use Rattle.salus_world.proofs.NodeSteps.{posted_sent}
+use Rattle.salus_world.proofs.world.World.deliver_to_node.Goals as goal
+
+pub returns : goal.returns
+returns c = λ volume all b n course kept.
+    let old = c.args.self.now in
+    let outcome = c.in_ok-outcome.outcome in
+    let outs = c.into_vec.result.items in
+    let name = c.args.name in
+    let m = c.message_at-message.result.now in
+    let index = c.args.index in
+    let what = handed.Deliver (index + 1) in
+    let mid = c.mark_delivered.new.sent.items in
+    let now : World = record { geometry = old.geometry; client = old.client; nodes = c.hand_at.new.nodes; sent = c.post.new.sent; lowest = old.lowest; lines = old.lines } in
+    let added : Posts (sender.Node name) outs mid old now = record { sent = c.in_ok-post.ensures; posts = c.mark_delivered.ensures.posts; lowest = refl; geometry = refl } in
+    answered_kept volume all b n old now course kept name c.requires.of c.place_of-place.result c.place_of-place.ensures.value what outs mid added refl refl
+    (marks_set volume all b n old now course kept (sender.Node name) outs mid added what index c.requires.inside c.mark_delivered.ensures.marks (λ k. refl))
+    (Receives m.from c.as_slice.result.now) outcome (sym c.into_vec.ensures) c.in_ok-outcome.ensures
+    (λ posts front. input_at volume all b n old now course kept index (posted m) (posted_sent old.sent.items index m c.message_at-message.ensures) posts front ∙ ap (λ (l : List ℕ). Some (Receives m.from l)) (sym c.as_slice.ensures))
+    (λ posts known. refl) refl

@@ -1,0 +1,112 @@
+-- A world goes on as its course tells.
+use Rattle.std.specs.Prelude.{◌≡◌, ℕ, ◌+◌, ◌^◌, ◌<◌, ◌≤◌, List, [], ◌∷◌, ◌++◌, length, slice_get, reverse, Some}
+use Rattle.std.specs.List.{AllByRecursion}
+use Rattle.salus_types.specs.Volume.{Shape, IsVolume, nodes}
+use Rattle.salus_types.specs.declared.names.Sender.{Sender}
+use Rattle.schedule_text.specs.declared.schedule.Volume.{Volume}
+use Rattle.schedule_text.specs.declared.schedule.Event.{Event}
+use Rattle.schedule_text.specs.declared.schedule.Event.TheVariants as event
+use Rattle.schedule_text.specs.Limits.{IsPartyOfVolume}
+use Rattle.printed_lines.specs.declared.line.Line.{Line}
+use Rattle.salus_model.specs.declared.sending.Sent.{Sent}
+use Rattle.salus_model.specs.declared.trace.Request.{Request}
+use Rattle.salus_model.specs.declared.trace.Request.TheVariants as request
+use Rattle.salus_model.specs.declared.trace.Handed.{Handed}
+use Rattle.salus_model.specs.declared.trace.Handed.TheVariants as handed
+use Rattle.salus_model.specs.declared.trace.TraceStep.{TraceStep}
+use Rattle.salus_model.specs.Judge.{event_at}
+use Rattle.salus_model.specs.Following.{Posted, posts_of, IsStep}
+use Rattle.run_rules.specs.Calm.{Calm, is_harmed}
+use Rattle.run_course.specs.Course.{Course, IsEvent, Goes, no_course, sent_so_far}
+use Rattle.law_ranged.proofs.Bounded.{ClientFits}
+use Rattle.client_node.specs.declared.node.ClientNode.{ClientNode}
+use Rattle.client_node.specs.Standing.{IsClient, shape_of, newest_of}
+use Rattle.mem_node.specs.declared.node.MemNode.{MemNode}
+use Rattle.run_steps.specs.Steps.{IsFront, known_at, OfClient, AreMade, with_step}
+use Rattle.run_steps.specs.Waiting.{AreMarked}
+use Rattle.run_steps.specs.Settling.{Settled}
+use Rattle.salus_world.specs.declared.world.World.{World}
+use Rattle.salus_world.specs.Places.{FitAll, SureAll}
+use Rattle.salus_world.specs.Growing.{marks_of}
+
+-- By all messages of a run: the steps are made by the rules, and each party is as they tell. The client may be asked at event b.
+pub record IsRun (volume : Volume) (b : ℕ) (trace : List TraceStep) (told : List (List Line)) (nodes_now : List MemNode) (client : ClientNode) (posts : List Posted) : Type 0 where
+  pub made : AreMade volume posts trace told
+  pub nodes_fit : FitAll volume.geometry (known_at volume posts trace) nodes_now
+  pub client_is : OfClient volume posts trace (λ d. IsClient client volume d × ClientFits volume.geometry b d)
+
+-- The world is as its course tells, while event n goes on.
+pub record IsKept (volume : Volume) (all : List Event) (b n : ℕ) (world : World) (c : Course) : Type 0 where
+  pub limits : IsVolume volume.geometry
+  pub some : 1 ≤ b
+  pub few : b ≤ 2 ^ 32
+  -- whatever messages follow
+  pub runs : (posts : List Posted) → IsFront (posts_of world.sent.items) posts → IsRun volume b c.trace c.told world.nodes.items world.client posts
+  pub count : sent_so_far c ≡ length world.sent.items
+  pub within : AllByRecursion (λ m. IsPartyOfVolume volume.geometry m.from × IsPartyOfVolume volume.geometry m.to) (posts_of world.sent.items)
+  pub marked : AreMarked (reverse c.trace) c.dropped world.lowest (marks_of world.sent.items)
+  pub calm : Calm all c.trace
+  pub sure : SureAll volume.geometry (is_harmed all (reverse c.trace) n) world.nodes.items
+  pub numbered : AllByRecursion (λ s. s.event ≤ n) (reverse c.trace)
+  pub lines : world.lines.items ≡ c.lines
+  pub geometry : world.geometry ≡ volume.geometry
+  pub shape : shape_of world.client ≡ volume.geometry
+  pub newest : newest_of world.client < b
+  pub count_nodes : length world.nodes.items ≡ nodes volume.geometry
+
+-- some course tells it
+abbrev pub IsOngoing : World → Type 0
+IsOngoing world = (volume : Volume) × (all : List Event) × (b : ℕ) × (n : ℕ) × (c : Course) × IsKept volume all b n world c
+
+-- One more step of event n, in which the party is handed that. The client may be asked at event b then.
+pub record HasStepped (volume : Volume) (all : List Event) (b n : ℕ) (party : Sender) (what : Handed) (was now : World) (c : Course) : Type 0 where
+  pub step : TraceStep
+  pub said : List Line
+  pub more : IsFront (posts_of was.sent.items) (posts_of now.sent.items)
+  pub number : step.event ≡ n
+  pub is_step : (posts : List Posted) → IsFront (posts_of now.sent.items) posts → IsStep posts (reverse c.trace) n party what step
+  pub kept : IsKept volume all b n now (with_step c step said)
+
+-- Event n is done, and the next one may be.
+pub record HasDone (volume : Volume) (all : List Event) (n : ℕ) (e : Event) (was now : World) (c : Course) : Type 0 where
+  pub course : Course
+  pub more : IsFront (posts_of was.sent.items) (posts_of now.sent.items)
+  pub event : (posts : List Posted) → IsFront (posts_of now.sent.items) posts → IsEvent posts n e c course
+  pub kept : IsKept volume all (n + 1) (n + 1) now course
+
+-- So many deliveries of event n are done.
+pub record HasSettled (volume : Volume) (all : List Event) (n done : ℕ) (was now : World) (c : Course) : Type 0 where
+  pub course : Course
+  pub more : IsFront (posts_of was.sent.items) (posts_of now.sent.items)
+  pub settled : (posts : List Posted) → IsFront (posts_of now.sent.items) posts → Settled posts n done c course
+  pub kept : IsKept volume all n n now course
+
+-- These events are done, of which the first has number 1.
+pub record HasRun (volume : Volume) (all events : List Event) (world : World) : Type 0 where
+  pub course : Course
+  pub goes : (posts : List Posted) → IsFront (posts_of world.sent.items) posts → Goes posts 1 events no_course course
+  pub kept : IsKept volume all (length events + 1) (length events + 1) world course
+
+-- whatever course tells how the world came about, it goes on by a step
+abbrev pub Steps : Sender → Handed → World → World → Type 0
+Steps party what was now =
+    (volume : Volume) (all : List Event) (b n : ℕ) (c : Course) → IsKept volume all b n was c → HasStepped volume all b n party what was now c
+
+-- by the delivery of the message of that index
+abbrev pub StepsAt : ℕ → World → World → Type 0
+StepsAt index was now =
+    (volume : Volume) (all : List Event) (b n : ℕ) (c : Course) (m : Posted) → IsKept volume all b n was c → slice_get (posts_of was.sent.items) index ≡ Some m
+    → HasStepped volume all b n m.to (handed.Deliver (index + 1)) was now c
+
+-- or by an event
+abbrev pub Does : ℕ → Event → World → World → Type 0
+Does n e was now =
+    (volume : Volume) (all : List Event) (c : Course) → n < 2 ^ 32 → event_at all n ≡ Some e → IsKept volume all n n was c → HasDone volume all n e was now c
+
+-- the event that asks for it
+abbrev pub event_of : Request → Event
+event_of (request.Write batch) = event.Write batch
+event_of (request.Read b) = event.Read b
+event_of request.Barrier = event.Barrier
+event_of (request.Restart e) = event.Restart e
+event_of (request.Reassign e g) = event.Reassign e g
