@@ -1,3 +1,4 @@
+pub mod Asking
 pub mod Runs
 pub mod Sources
 pub mod OneWord

@@ -1,49 +1,47 @@
 -- What a whole run has, by the laws.
-use Rattle.std.proofs.Common.{◌≡◌, ◌^◌, ◌≤◌, List, length, replicate, Some, refl, sym, subst, arith, ◌∙◌}
-use Rattle.std.proofs.lemmas.List.{length-replicate}
-use Rattle.small_model.specs.declared.schedule.Schedule.{Schedule}
-use Rattle.small_model.specs.declared.schedule.Volume.{Volume}
-use Rattle.small_model.specs.declared.schedule.Event.{Event}
+use Rattle.std.proofs.Common.{◌≡◌, ◌∙◌, List, ap, sym, subst}
+use Rattle.schedule_text.specs.declared.schedule.Volume.{Volume}
+use Rattle.schedule_text.specs.declared.schedule.Event.{Event}
 use Rattle.printed_lines.specs.declared.line.Line.{Line}
-use Rattle.small_model.specs.Judge.{IsLegalHistory}
-use Rattle.small_model.specs.Due.{lines_due}
-use Rattle.small_world.specs.declared.world.World.{World}
-use Rattle.small_world.specs.Machine.{IsReady, new_world, run_world, run_lines}
-use Rattle.small_world.proofs.Powers.{power_small}
-use Rattle.small_law_lines.proofs.Whole.{exact_run}
-use Rattle.small_law_history.proofs.Continued.{legal}
-use Rattle.small_law_trace.proofs.Schedules.{followed}
-use Rattle.small_law_trace.proofs.Rules.{by_rules}
-use Rattle.salus_commands.specs.Replaying.{Replays}
+use Rattle.salus_model.specs.declared.trace.TraceStep.{TraceStep}
+use Rattle.salus_model.specs.Following.{Posted, Follows}
+use Rattle.salus_model.specs.Judge.{LegalHistory}
+use Rattle.salus_model.specs.Due.{lines_due, lines_from}
+use Rattle.salus_model.specs.Seen.{NoCollision}
+use Rattle.salus_model.specs.Forgery.{NoForgery}
+use Rattle.client_rules.specs.Rules.{new_client, client_lines}
+use Rattle.run_rules.specs.Run.{IsByRules, formatted_first}
+use Rattle.run_rules.specs.Serving.{ClientByRules}
+use Rattle.law_lines.specs.Running.{told_pasts, run_lines}
+use Rattle.run_course.proofs.Going.{Whole, goes_whole}
+use Rattle.salus_world.specs.Runs.{Runs}
+use Rattle.salus_commands.specs.Replaying.{IsRun}
 
--- a new world is ready for the first step
-pub new_ready : (volume : Volume) → volume.height ≤ 10 → IsReady (new_world volume) 1
-new_ready volume low =
-    let blocks : length (replicate (2 ^ volume.height) (replicate volume.block 0)) ≡ 2 ^ volume.height = length-replicate (2 ^ volume.height) (replicate volume.block 0) in
-    let small : 2 ^ volume.height ≤ 1024 = power_small volume.height low in
+-- what the laws say of a trace that follows a schedule
+pub record Lawful (volume : Volume) (events : List Event) (posts : List Posted) (trace : List TraceStep) (told : List (List Line)) : Type 0 where
+  pub steps : NoCollision volume events posts trace → ClientByRules volume (new_client volume.geometry) posts trace
+  pub lines : NoCollision volume events posts trace → told ≡ client_lines volume posts (new_client volume.geometry) trace
+  pub due : run_lines volume events posts trace ≡ lines_due volume events posts trace
+  pub legal : NoCollision volume events posts trace → NoForgery volume events posts trace → IsByRules volume (formatted_first volume) posts trace
+      → LegalHistory volume.geometry events (run_lines volume events posts trace)
+
+-- a run by its course
+pub of_run : (volume : Volume) (events : List Event) (lines : List Line) (posts : List Posted) (r : Runs volume events lines posts)
+    → (Follows events posts r.course.trace → Lawful volume events posts r.course.trace r.course.told) → IsRun volume events posts r.course.trace r.course.told lines
+of_run volume events lines posts r laws =
+    let whole : Whole volume posts events r.course = goes_whole volume posts events r.course r.goes r.all in
+    let law = laws whole.follows in
+    let printed = r.lines_told ∙ whole.lines in
+    let by_client : NoCollision volume events posts r.course.trace → lines ≡ run_lines volume events posts r.course.trace =
+    λ none. printed ∙ ap (λ (ls : List (List Line)). lines_from volume events posts 0 1 events (told_pasts volume r.course.trace ls)) (law.lines none) in
     record {
-      client_blocks = blocks;
-      few_blocks = subst (λ n. n ≤ 1024) (sym blocks) small;
-      server_blocks = blocks;
-      submitted = omega arith;
-      applied = omega arith;
+      follows = whole.follows;
+      calm = r.calm;
+      nodes = r.nodes;
+      client = r.client;
+      client_lines = r.told;
+      printed = printed;
+      by_rules = law.steps;
+      exact = λ none. by_client none ∙ law.due;
+      legal = λ none unforged. subst (LegalHistory volume.geometry events) (sym (by_client none)) (law.legal none unforged (record { nodes = r.nodes; client = law.steps none }));
     }
-
--- the report of a run
-pub whole_run : (schedule : Schedule) (first last : World) (events : List Event) (lines : List Line) → first ≡ new_world schedule.volume → events ≡ schedule.events
-    → last ≡ run_world first 1 events → lines ≡ run_lines first 1 events → Replays schedule (record { lines = lines; world = Some last })
-whole_run schedule first last events lines is_first are_events is_last are_lines =
-    let start : World = new_world schedule.volume in
-    let end : World = run_world start 1 schedule.events in
-    let same_last : last ≡ end = is_last ∙ rw (is_first, are_events) refl in
-    let exact : lines ≡ lines_due schedule.volume schedule.events end.sent end.trace = are_lines ∙ rw (is_first, are_events) (exact_run schedule.volume schedule.events) in
-    let follows = followed schedule.volume schedule.events in
-    subst (λ w. Replays schedule (record { lines = lines; world = Some w })) (sym same_last)
-    (record {
-      last = end;
-      kept = refl;
-      exact = exact;
-      follows = follows;
-      by_rules = by_rules schedule.volume schedule.events;
-      legal = λ none. subst (IsLegalHistory schedule.volume schedule.events) (sym exact) (legal schedule.volume schedule.events end.sent end.trace follows none);
-    })

@@ -1,3 +1,4 @@
 pub mod Words
+pub mod Refusing
 pub mod Replaying
 pub mod Statuses

@@ -1,35 +1,61 @@
 -- What a replay reports.
-use Rattle.std.specs.Prelude.{◌≡◌, ℕ, List, [], Option, None, Some, IfSome}
-use Rattle.small_model.specs.declared.schedule.Schedule.{Schedule}
-use Rattle.small_model.specs.Following.{Follows}
-use Rattle.small_model.specs.Judge.{IsLegalHistory}
-use Rattle.small_model.specs.Due.{lines_due}
-use Rattle.small_model.specs.Seen.{NoCollision}
-use Rattle.small_schedule.specs.Grammar.{IsSchedule}
-use Rattle.small_world.specs.declared.world.World.{World}
-use Rattle.small_law_trace.specs.ByRules.{IsByRules}
+use Rattle.std.specs.Prelude.{◌≡◌, ℕ, List, [], Option, IfSome}
+use Rattle.schedule_text.specs.declared.schedule.Volume.{Volume}
+use Rattle.schedule_text.specs.declared.schedule.Event.{Event}
+use Rattle.schedule_text.specs.declared.schedule.Schedule.{Schedule}
+use Rattle.schedule_text.specs.Grammar.{IsSchedule, sessions_of}
+use Rattle.printed_lines.specs.declared.line.Line.{Line}
+use Rattle.salus_model.specs.declared.trace.TraceStep.{TraceStep}
+use Rattle.salus_model.specs.Following.{Posted, posts_of, Follows}
+use Rattle.salus_model.specs.Judge.{LegalHistory}
+use Rattle.salus_model.specs.Due.{lines_due, lines_from}
+use Rattle.salus_model.specs.Seen.{NoCollision}
+use Rattle.salus_model.specs.Forgery.{NoForgery}
+use Rattle.client_rules.specs.Rules.{new_client}
+use Rattle.run_rules.specs.Running.{NodesByRules, formatted}
+use Rattle.run_rules.specs.Serving.{ClientByRules}
+use Rattle.run_rules.specs.Calm.{Calm}
+use Rattle.client_premises.specs.Behind.{ClientStepsBehind, LinesBehind}
+use Rattle.law_lines.specs.Running.{told_pasts}
 use Rattle.salus_commands.specs.declared.report.Report.{Report}
 
 abbrev pub empty_report : Report
-empty_report = record { lines = []; world = None }
+empty_report = record { lines = []; messages = [] }
+
+-- These are the messages, the trace, the lines of each step and all lines of a run of these events on that volume.
+pub record IsRun (volume : Volume) (events : List Event) (posts : List Posted) (trace : List TraceStep) (told : List (List Line)) (lines : List Line) : Type 0 where
+  -- the trace follows the schedule
+  pub follows : Follows events posts trace
+  -- a call of a disk fails only where the schedule has one fail
+  pub calm : Calm events trace
+  -- each node goes by its rules, from a formatted volume on
+  pub nodes : NodesByRules volume.geometry (formatted volume) posts trace
+  -- so does the client, its messages and its lines, up to the first step in which two different strings share a digest
+  pub client : ClientStepsBehind volume posts (new_client volume.geometry) 0 trace
+  pub client_lines : LinesBehind volume posts (new_client volume.geometry) trace told
+  -- the lines are those of the steps, with those of the events that are skipped in their places
+  pub printed : lines ≡ lines_from volume events posts 0 1 events (told_pasts volume trace told)
+  -- Where no two different strings seen share a digest, the client goes by its rules throughout, and the lines are exactly those due.
+  pub by_rules : NoCollision volume events posts trace → ClientByRules volume (new_client volume.geometry) posts trace
+  pub exact : NoCollision volume events posts trace → lines ≡ lines_due volume events posts trace
+  -- Where besides no lie brings a forged tag, they are a legal history of one array.
+  pub legal : NoCollision volume events posts trace → NoForgery volume events posts trace → LegalHistory volume.geometry events lines
 
 -- The report is that of a run of the schedule.
 pub record Replays (schedule : Schedule) (report : Report) : Type 0 where
-  pub last : World
-  pub kept : report.world ≡ Some last
-  -- its lines are exactly those due, over its own messages and trace
-  pub exact : report.lines ≡ lines_due schedule.volume schedule.events last.sent last.trace
-  -- its trace follows the schedule
-  pub follows : Follows schedule.events last.sent last.trace
-  -- each step adds exactly the messages of the party's rules
-  pub by_rules : IsByRules schedule.volume last.sent last.trace
-  -- where no two different strings seen share a digest, the lines are a legal history of one array
-  pub legal : NoCollision schedule.volume schedule.events last.sent last.trace → IsLegalHistory schedule.volume schedule.events report.lines
+  pub trace : List TraceStep
+  pub told : List (List Line)
+  pub run : IsRun schedule.volume schedule.events (posts_of report.messages) trace told report.lines
 
--- The source had a schedule's text, if it tells what it had, and the report is that of a run of this schedule.
+-- The text is that of a schedule which asks to open no session, and the report is that of a run of this schedule.
+pub record RanText (text : List ℕ) (report : Report) : Type 0 where
+  pub schedule : Schedule
+  pub means : IsSchedule text schedule
+  pub served : sessions_of schedule.events ≡ []
+  pub replays : Replays schedule report
+
+-- So of the text that a source had, if it tells what it had.
 pub record RanSchedule (left : Option (List ℕ)) (report : Report) : Type 0 where
   pub text : List ℕ
-  pub schedule : Schedule
   pub told : IfSome left (λ bytes. bytes ≡ text)
-  pub means : IsSchedule text schedule
-  pub replays : Replays schedule report
+  pub ran : RanText text report

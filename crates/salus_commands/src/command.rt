@@ -1,21 +1,24 @@
-ghost use Rattle.std.specs.Prelude.{◌≡◌, ◌==◌, ◌↔◌, ◌⊎◌, ◌≤◌, ◌<◌, ◌∷◌, [], IsTrue, IfSome, map, string_bytes, Option, Some, None};
-ghost use Rattle.salus_io.specs.Told.{Appends, AppendsPrefix, ConsumesMore, IsAtEnd};
+ghost use Rattle.std.specs.Prelude.{◌≡◌, ◌==◌, ◌↔◌, ◌⊎◌, ◌<◌, ◌∷◌, [], map, string_bytes};
+ghost use Rattle.salus_io.specs.Told.{Appends, AppendsPrefix, IsAtEnd};
 ghost use Rattle.salus_io.specs.Faults.{StaysSure};
 ghost use Rattle.salus_types.specs.Outcome.{Rose};
-ghost use Rattle.printed_lines.specs.LineText.{text_of, refusal_text};
+ghost use Rattle.printed_lines.specs.LineText.{text_of};
 ghost use Rattle.merkle_region.specs.Tree.{IsAmong};
-ghost use Rattle.small_schedule.specs.Grammar.{IsSchedule, IsFirstWrong};
+ghost use Rattle.schedule_text.specs.Grammar.{sessions_of};
+ghost use Rattle.schedule_text.specs.Limits.{IsWithinLimits};
 ghost use Rattle.salus_commands.specs.Words.{IsReplay};
-ghost use Rattle.salus_commands.specs.Replaying.{empty_report, Replays, RanSchedule};
-ghost use Rattle.salus_commands.specs.Statuses.{RanText, RefusedText, PartOfText, HasSchedule, WroteRefusal, WrotePart};
+ghost use Rattle.salus_commands.specs.Refusing.{refusal_text};
+ghost use Rattle.salus_commands.specs.Replaying.{empty_report, Replays, RanText, RanSchedule};
+ghost use Rattle.salus_commands.specs.Statuses.{RefusedText, PartOfText, HasSchedule, HasRefused, WroteRefusal, WrotePart};
 
+use crate::reading::{ReadingError, read_schedule};
+use crate::refusal::{Refusal, text_of_refusal};
 use crate::replay::replay;
 use crate::report::Report;
 use crate::words::is_replay;
-use printed_lines::{text_of_lines, write_refusal};
+use printed_lines::text_of_lines;
 use salus_io::{ReadError, Sink, SinkFault, Source, read_whole, write_all};
-use small_model::Schedule;
-use small_schedule::{ParseError, parse};
+use schedule_text::{Cause, Schedule, ScheduleError};
 use std::alloc::Global;
 
 // The statuses: the command is done; the words are no command; the text is no schedule; the source failed; the sink
@@ -32,8 +35,13 @@ const SINK_FAILED: u8 = 5;
 
 const NO_MEMORY: u8 = 6;
 
-// How many bytes the text of a schedule may have.
+// How many bytes the text of a schedule may have, and what one of more is refused for.
 const MOST_BYTES: usize = 67_108_864;
+
+const TOO_LONG: Refusal = Refusal::Wrong(ScheduleError {
+    line: 0,
+    cause: Cause::Long,
+});
 
 /// Writes a text, and gives the status `done` where all of it was taken.
 fn print<K: Sink>(sink: &mut K, text: &[u8], done: u8) -> u8
@@ -52,41 +60,55 @@ fn print<K: Sink>(sink: &mut K, text: &[u8], done: u8) -> u8
     }
 }
 
-/// Answers a text that is no schedule, with its first wrong line.
-fn refuse<K: Sink>(alloc: Global, line: u64, sink: &mut K) -> u8
-    ensures written { result ≡ 3 → Appends (K.held sink.old) (K.held sink.new) (refusal_text line) }
+/// Answers a text that isn't run.
+fn refuse<K: Sink>(alloc: Global, refusal: Refusal, sink: &mut K) -> u8
+    ensures written { result ≡ 3 → Appends (K.held sink.old) (K.held sink.new) (refusal_text refusal) }
     ensures failed { result ≡ 5 → Rose (K.faults sink.old) (K.faults sink.new) }
     ensures counted { (result ≡ 5 → ⊥) → K.faults sink.new ≡ K.faults sink.old }
-    ensures part { AppendsPrefix (K.held sink.old) (K.held sink.new) (refusal_text line) }
+    ensures part { AppendsPrefix (K.held sink.old) (K.held sink.new) (refusal_text refusal) }
     ensures sure { StaysSure (K.failing sink.old) (K.failing sink.new) (result == 5) }
     ensures others { IsAmong result (3 ∷ 5 ∷ 6 ∷ []) }
 {
-    let mut text = Vec::new(alloc);
-    match write_refusal(line, &mut text) {
-        Ok(()) => print(sink, text.as_slice(), REFUSED),
+    match text_of_refusal(alloc, &refusal) {
+        Ok(text) => print(sink, text.as_bytes(), REFUSED),
+        Err(_) => NO_MEMORY,
+    }
+}
+
+/// Writes the text of a run's lines.
+fn print_lines<K: Sink>(alloc: Global, report: &Report, sink: &mut K) -> u8
+    ensures written { result ≡ 0 → Appends (K.held sink.old) (K.held sink.new) (text_of report.now.lines) }
+    ensures failed { result ≡ 5 → Rose (K.faults sink.old) (K.faults sink.new) }
+    ensures counted { (result ≡ 5 → ⊥) → K.faults sink.new ≡ K.faults sink.old }
+    ensures part { AppendsPrefix (K.held sink.old) (K.held sink.new) (text_of report.now.lines) }
+    ensures sure { StaysSure (K.failing sink.old) (K.failing sink.new) (result == 5) }
+    ensures others { IsAmong result (0 ∷ 5 ∷ 6 ∷ []) }
+{
+    match text_of_lines(alloc, &report.lines) {
+        Ok(text) => print(sink, text.as_slice(), DONE),
         Err(_) => NO_MEMORY,
     }
 }
 
 /// Runs a schedule, and writes the text of its lines.
-fn run<K: Sink>(alloc: Global, schedule: &Schedule, sink: &mut K, report: &mut Report) -> u8
-    requires { schedule.now.volume.height ≤ 10 }
-    ensures replays { (result ≡ 0) ⊎ (result ≡ 5) → Replays schedule.now report.new }
+fn run<K: Sink>(alloc: Global, schedule: Schedule, sink: &mut K, report: &mut Report) -> u8
+    requires limits { IsWithinLimits schedule }
+    requires served { sessions_of schedule.events ≡ [] }
+    ensures replays { (result ≡ 0) ⊎ (result ≡ 5) → Replays schedule report.new }
     ensures written { result ≡ 0 → Appends (K.held sink.old) (K.held sink.new) (text_of report.new.lines) }
     ensures failed { result ≡ 5 → Rose (K.faults sink.old) (K.faults sink.new) }
     ensures counted { (result ≡ 5 → ⊥) → K.faults sink.new ≡ K.faults sink.old }
     ensures part { result ≡ 5 → AppendsPrefix (K.held sink.old) (K.held sink.new) (text_of report.new.lines) }
     ensures memory { result ≡ 6 → (sink.new ≡ sink.old) × (report.new ≡ report.old)
-        ⊎ Replays schedule.now report.new × AppendsPrefix (K.held sink.old) (K.held sink.new) (text_of report.new.lines) }
+        ⊎ Replays schedule report.new × AppendsPrefix (K.held sink.old) (K.held sink.new) (text_of report.new.lines) }
     ensures sure { StaysSure (K.failing sink.old) (K.failing sink.new) (result == 5) }
     ensures others { IsAmong result (0 ∷ 5 ∷ 6 ∷ []) }
 {
-    match replay(alloc, schedule, report) {
-        Ok(()) => {}
-        Err(_) => return NO_MEMORY,
-    }
-    match text_of_lines(alloc, &report.lines) {
-        Ok(text) => print(sink, text.as_slice(), DONE),
+    match replay(alloc, schedule) {
+        Ok(ran) => {
+            *report = ran;
+            print_lines(alloc, report, sink)
+        }
         Err(_) => NO_MEMORY,
     }
 }
@@ -106,10 +128,10 @@ fn answer<K: Sink>(alloc: Global, text: &[u8], sink: &mut K, report: &mut Report
     ensures sure { StaysSure (K.failing sink.old) (K.failing sink.new) (result == 5) }
     ensures others { IsAmong result (0 ∷ 3 ∷ 5 ∷ 6 ∷ []) }
 {
-    match parse(alloc, text) {
-        Ok(schedule) => run(alloc, &schedule, sink, report),
-        Err(ParseError::Refused { line }) => refuse(alloc, line, sink),
-        Err(ParseError::NoMemory) => NO_MEMORY,
+    match read_schedule(alloc, text) {
+        Ok(schedule) => run(alloc, schedule, sink, report),
+        Err(ReadingError::Refused(refusal)) => refuse(alloc, refusal, sink),
+        Err(ReadingError::NoMemory) => NO_MEMORY,
     }
 }
 
@@ -139,7 +161,7 @@ fn replay_source<S: Source, K: Sink>(
 {
     match read_whole(alloc, source, MOST_BYTES) {
         Ok(text) => answer(alloc, text.as_slice(), sink, report),
-        Err(ReadError::TooLong) => refuse(alloc, 0, sink),
+        Err(ReadError::TooLong) => refuse(alloc, TOO_LONG, sink),
         Err(ReadError::Failed) => SOURCE_FAILED,
         Err(ReadError::NoMemory) => NO_MEMORY,
     }
@@ -147,9 +169,10 @@ fn replay_source<S: Source, K: Sink>(
 
 /// Does what the words say, and gives the status that the program ends with. The report is empty before.
 ///
-/// 0: the run is done, and its lines are written. 2: the words are no command. 3: the text is no schedule, and the
-/// line `error L later` is written. 4: the source failed. 5: the sink failed, and holds a front part of the text. 6:
-/// there was no memory; the sink holds nothing more than before, or a front part of the text.
+/// 0: the run is done, and its lines are written. 2: the words are no command. 3: the text is no schedule, or one that asks to
+/// open a session, and the line `error L C` is written, with the line's number and the cause. 4: the source failed. 5: the
+/// sink failed, and holds a front part of the text. 6: there was no memory; the sink holds nothing more than before, or a
+/// front part of the text.
 pub fn salus<S: Source, K: Sink>(
     alloc: Global,
     words: &Vec<String>,
@@ -163,12 +186,14 @@ pub fn salus<S: Source, K: Sink>(
     ensures words { (result ≡ 2) ↔ (IsReplay (map (λ w. string_bytes w) words.now.items) → ⊥) }
     ensures untouched { result ≡ 2 → (source.new ≡ source.old) × (sink.new ≡ sink.old) × (report.new ≡ report.old) }
 
-    // 0: the source was read to its end and had a schedule, the report is of a run of it, and its lines were written.
+    // 0: the source was read to its end and had a schedule that asks to open no session, the report is of a run of it, and its
+    // lines were written.
     ensures ran { result ≡ 0 → RanSchedule (S.left source.old) report.new }
     ensures whole { result ≡ 0 → IsAtEnd (S.left source.new) }
     ensures written { result ≡ 0 → Appends (K.held sink.old) (K.held sink.new) (text_of report.new.lines) }
 
-    // 3: the text is no schedule, and the refusal was written.
+    // 3: the text is no schedule's, or that of one which asks to open a session, and the refusal was written: the first wrong
+    // line with its cause, or the first line that asks.
     ensures refused { result ≡ 3 → WroteRefusal (S.left source.old) (S.left source.new) (K.held sink.old) (K.held sink.new) }
     ensures refused_report { result ≡ 3 → report.new ≡ report.old }
 
@@ -187,9 +212,12 @@ pub fn salus<S: Source, K: Sink>(
     ensures sure_source { StaysSure (S.failing source.old) (S.failing source.new) (result == 4) }
     ensures sure_sink { StaysSure (K.failing sink.old) (K.failing sink.new) (result == 5) }
 
-    // A replay of a schedule with no fault counted is done, unless there was no memory.
+    // A replay with no fault counted is done where the text is that of a schedule which asks to open no session, and refused
+    // where it is refused, unless there was no memory.
     ensures complete { IsReplay (map (λ w. string_bytes w) words.now.items) → HasSchedule (S.left source.old)
         → (Rose (S.faults source.old) (S.faults source.new) → ⊥) → (Rose (K.faults sink.old) (K.faults sink.new) → ⊥) → (result ≡ 0) ⊎ (result ≡ 6) }
+    ensures refuses { IsReplay (map (λ w. string_bytes w) words.now.items) → HasRefused (S.left source.old)
+        → (Rose (S.faults source.old) (S.faults source.new) → ⊥) → (Rose (K.faults sink.old) (K.faults sink.new) → ⊥) → (result ≡ 3) ⊎ (result ≡ 6) }
     ensures others { IsAmong result (0 ∷ 2 ∷ 3 ∷ 4 ∷ 5 ∷ 6 ∷ []) }
 {
     if is_replay(words) {

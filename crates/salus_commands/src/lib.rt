@@ -1,13 +1,17 @@
 //! The commands of the program `salus`, from the words and the bytes of a source to the bytes of a sink.
 //!
-//! `salus` carries the promise of the whole: the printed lines are exactly those that are due in a run that follows
-//! the schedule, and a legal history of one array, if no two different strings seen share a digest.
+//! `salus` carries the promise of the whole: the run follows the schedule, and nodes and client go by their rules in it; the
+//! printed lines are exactly those that are due, if no two different strings seen share a digest; and a legal history of one
+//! array, if besides no lie brings a forged tag.
 #![tactic(auto)]
 
 mod command;
+mod reading;
+mod refusal;
 mod replay;
 mod report;
 mod words;
 
 pub use command::salus;
+pub use refusal::Refusal;
 pub use report::Report;

@@ -1,24 +1,28 @@
-ghost use Rattle.std.specs.Prelude.{◌≡◌, ◌≤◌, OnOk, OnErr};
+ghost use Rattle.std.specs.Prelude.{◌≡◌, [], IfOk};
+ghost use Rattle.schedule_text.specs.Grammar.{sessions_of};
+ghost use Rattle.schedule_text.specs.Limits.{IsWithinLimits};
 ghost use Rattle.salus_commands.specs.Replaying.{Replays};
 
 use crate::report::Report;
+use law_apart::runs_are_apart;
+use law_whole::runs_by_rules_are_legal;
 use salus_types::NoMemory;
-use small_model::Schedule;
-use small_world::World;
+use salus_world::run_schedule;
+use schedule_text::Schedule;
 use std::alloc::Global;
 
-/// Runs a schedule whole, and reports its lines and its last world. After an error the report is as it was.
-pub(crate) fn replay(
-    alloc: Global,
-    schedule: &Schedule,
-    report: &mut Report,
-) -> Result<(), NoMemory>
-    requires { schedule.now.volume.height ≤ 10 }
-    ensures ok { OnOk result (Replays schedule.now report.new) }
-    ensures err { OnErr result (report.new ≡ report.old) }
+/// Runs a schedule whole, and reports its lines and messages.
+pub(crate) fn replay(alloc: Global, schedule: Schedule) -> Result<Report, NoMemory>
+    requires limits { IsWithinLimits schedule }
+    requires served { sessions_of schedule.events ≡ [] }
+    ensures { IfOk result (Replays schedule) }
 {
-    let mut world = World::new(alloc, &schedule.volume)?;
-    report.lines = world.run(alloc, schedule.events.as_slice())?;
-    report.world = Some(world);
-    Ok(())
+    // The laws of whole runs: calls that do nothing, of which the clauses count.
+    runs_are_apart();
+    runs_by_rules_are_legal();
+    let ran = run_schedule(alloc, schedule)?;
+    Ok(Report {
+        lines: ran.lines,
+        messages: ran.messages,
+    })
 }

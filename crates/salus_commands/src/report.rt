@@ -1,13 +1,13 @@
 use printed_lines::Lines;
+use salus_model::Messages;
 use salus_types::Items;
-use small_world::World;
 use std::alloc::Global;
 
-/// What a command leaves: the lines of a run, and its last world.
+/// What a command leaves: the lines of a run, and all its messages in the order sent.
 #[derive(Drop)]
 pub struct Report {
     pub lines: Lines,
-    pub world: Option<World>,
+    pub messages: Messages,
 }
 
 impl Report {
@@ -20,7 +20,7 @@ impl Report {
     {
         Report {
             lines: Items::new(alloc),
-            world: None,
+            messages: Items::new(alloc),
         }
     }
 }

@@ -1,7 +1,5 @@
 use merkle_region::{path_of, root, verifies};
 use salus_types::{Bytes, Items, NoMemory};
-use small_model::Answer;
-use spelled_answer::read_answer;
 use std::alloc::Global;
 
 /// Four blocks of one byte each, their number.
@@ -42,45 +40,4 @@ fn paths_lead_to_the_root(rt: HostRuntime) {
             Err(_) => assert!(rt; false, "no memory for the path of {i}"),
         }
     }
-}
-
-/// Whether the bytes are read as an answer of that read, with a block of so many bytes and a path of so many digests.
-fn is_read(
-    alloc: Global,
-    bytes: &[u8],
-    read: u64,
-    size: usize,
-    levels: usize,
-) -> Result<bool, NoMemory> {
-    Ok(match read_answer(alloc, bytes)? {
-        Some(
-            Answer {
-                read: number,
-                block: _,
-                at: _,
-                bytes,
-                path,
-            },
-        ) => number == read && bytes.len() == size && path.len() == levels,
-        None => false,
-    })
-}
-
-#[test]
-fn answers_are_read(rt: HostRuntime) {
-    let good = *b"\x05\0\0\0\0\0\0\0\x01\0\0\0\0\0\0\0\x03\0\0\0\0\0\0\0\0\0\0\0\x01\0\x01\x06\0";
-    assert!(rt;
-        matches!(is_read(rt.alloc(), good.as_slice(), 3, 1, 0), Ok(true)),
-        "an answer"
-    );
-    assert!(rt;
-        matches!(is_read(rt.alloc(), &good[..32], 3, 1, 0), Ok(false)),
-        "a byte less"
-    );
-    let mut other = good;
-    other[8] = 2;
-    assert!(rt;
-        matches!(is_read(rt.alloc(), other.as_slice(), 3, 1, 0), Ok(false)),
-        "another session"
-    );
 }

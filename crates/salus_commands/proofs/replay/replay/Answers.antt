@@ -1,11 +1,17 @@
-use Rattle.std.proofs.Common.{sym, subst}
-use Rattle.small_world.specs.Machine.{IsReady}
-use Rattle.salus_commands.proofs.Runs.{new_ready, whole_run}
+use Rattle.salus_commands.proofs.Runs.{of_run}
 use Rattle.salus_commands.proofs.replay.replay.Goals as goal
 
-pub run-requires : goal.run-requires
-run-requires c = subst (λ w. IsReady w 1) (sym c.in_ok-world.ensures) (new_ready c.args.schedule.now.volume c.requires)
-
-pub returns-clause-ok : goal.returns-clause-ok
-returns-clause-ok c =
-    whole_run c.args.schedule.now c.in_ok-world.world _ _ _ c.in_ok-world.ensures c.as_slice.ensures c.in_ok-report.ensures.world c.in_ok-report.ensures.lines
+pub returns : goal.returns
+returns c =
+    let r = c.in_ok-ran.ensures.runs in
+    let trace = r.course.trace in
+    record {
+      trace = trace;
+      told = r.course.told;
+      run = of_run _ _ _ _ r (λ follows. record {
+        steps = λ none. c.runs_are_apart.ensures.steps _ _ _ trace c.requires.limits c.requires.served follows none r.client;
+        lines = λ none. c.runs_are_apart.ensures.lines _ _ _ trace r.course.told c.requires.limits c.requires.served follows none r.told;
+        due = c.runs_are_apart.ensures.due _ _ _ trace c.requires.limits c.requires.served follows;
+        legal = λ none unforged by. (c.runs_by_rules_are_legal.ensures _ _ _ trace c.requires.limits follows none unforged by).1;
+      });
+    }

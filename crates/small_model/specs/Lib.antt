@@ -1,6 +1,0 @@
-pub mod Contents
-pub mod Answering
-pub mod Judge
-pub mod Following
-pub mod Due
-pub mod Seen

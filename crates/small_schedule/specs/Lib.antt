@@ -1,4 +1,0 @@
-pub mod Reading
-pub mod Outcome
-pub mod Grammar
-pub mod Limits

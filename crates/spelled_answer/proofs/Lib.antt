@@ -1,2 +1,0 @@
-pub mod Bridges
-pub mod Fronts
