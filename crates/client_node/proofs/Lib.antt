@@ -1,2 +1,4 @@
 pub mod EqualBlocks
 pub mod Turning
+pub mod Away
+pub mod Opened

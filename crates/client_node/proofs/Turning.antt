@@ -1,8 +1,7 @@
--- A step of a client that serves, or is closed, is one of the rules.
-use Rattle.std.proofs.Common.{◌≡◌, ◌∙◌, ℕ, List, [], ◌∷◌, ◌++◌, map, refl, sym, ap, subst}
+-- A step of a client that serves, or is closed, is one of the rules; and so is a whole step of any.
+use Rattle.std.proofs.Common.{◌≡◌, ◌∙◌, ℕ, List, [], ◌++◌, map, refl, sym, ap, subst}
 use Rattle.std.proofs.lemmas.List.{append-nil}
 use Rattle.std.specs.Prelude.{Result, Ok, Err}
-use Rattle.salus_types.specs.Volume.{Shape}
 use Rattle.salus_types.specs.declared.names.NodeName.{NodeName}
 use Rattle.salus_types.specs.declared.names.Sender.{Sender}
 use Rattle.salus_types.specs.declared.names.Sender.TheVariants as sender
@@ -11,13 +10,10 @@ use Rattle.salus_message.specs.declared.wire.Message.{Message}
 use Rattle.salus_message.specs.declared.wire.MessageError.{MessageError}
 use Rattle.salus_message.specs.Reading.{message_at}
 use Rattle.schedule_text.specs.declared.schedule.Volume.{Volume}
-use Rattle.printed_lines.specs.declared.line.Line.TheVariants as line
-use Rattle.printed_lines.specs.declared.line.RequestRefusal.TheVariants as refusal
 use Rattle.salus_model.specs.declared.trace.Request.{Request}
-use Rattle.salus_model.specs.declared.trace.Request.TheVariants as request
 use Rattle.salus_model.specs.Hearing.{Asks, news_of_message, news_from}
 use Rattle.posting.specs.Letters.{out_of_letter}
-use Rattle.client_rules.specs.State.{Serving, Client, Closed, Serves, Gathers, Fetches, Stages, Switches, Told, ignored, only_lines}
+use Rattle.client_rules.specs.State.{Serving, Client, Closed, Serves, Gathers, Fetches, Stages, Switches, Told, ignored}
 use Rattle.client_rules.specs.Rules.{requested, received, told_serving, ticked, told}
 use Rattle.client_rules.specs.Serving.{requested_here, ticked_here}
 use Rattle.client_premises.specs.Premises.{IsApart, MessageIsApart, ServingIsApart}
@@ -30,7 +26,7 @@ use Rattle.client_node.specs.declared.phase.Phase.{Phase}
 use Rattle.client_node.specs.declared.phase.Phase.TheVariants as phase
 use Rattle.client_node.specs.declared.node.ClientNode.{ClientNode}
 use Rattle.client_node.specs.Phases.{IsClosed, Plays, Follows}
-use Rattle.client_node.specs.Standing.{IsClient, IsTold, IsServed as IsRequest}
+use Rattle.client_node.specs.Standing.{IsClient, IsTold}
 
 -- ---- a client for which one that serves stands
 
@@ -68,24 +64,6 @@ module _ (volume : Volume) (before after : Step) (v : ℕ) (r : Request) where
   unfolding requested
   asked_serving kept new tells =
       by_serving volume kept (λ c. Follows volume before after (phase.Serving new) (requested volume c v r)) (λ s stands. record { client = (tells s stands).becomes; adds = (tells s stands).adds })
-
--- a closed client refuses what opens no session
-refused_away : (volume : Volume) (shape : Shape) (v : ℕ) (r : Request) → IsRequest shape r → only_lines Closed (line.Refused v refusal.Closed ∷ []) ≡ requested volume Closed v r
-unfolding requested
-refused_away volume shape v (request.Write batch) served = refl
-refused_away volume shape v (request.Read b) served = refl
-refused_away volume shape v request.Barrier served = refl
-refused_away volume shape v (request.Restart e) served = absurd served
-refused_away volume shape v (request.Reassign e g) served = absurd served
-
-pub asked_closed : (kept : ClosedClient) (shape : Shape) (before after : Step) (v : ℕ) (r : Request) → IsRequest shape r → after.outs.items ≡ before.outs.items → after.lines.items ≡ before.lines.items ++ line.Refused v refusal.Closed ∷ []
-    → (volume : Volume) (c : Client) → IsClosed volume kept c → Follows volume before after (phase.Closed kept) (requested volume c v r)
-asked_closed kept shape before after v r served same refused volume c is =
-    let refusing : Told = only_lines Closed (line.Refused v refusal.Closed ∷ []) in
-    let here : Follows volume before after (phase.Closed kept) refusing =
-    record { client = still_closed volume kept c is; adds = record { outs = same ∙ sym (append-nil before.outs.items); lines = refused } } in
-    by_closed volume kept (λ d. Follows volume before after (phase.Closed kept) (requested volume d v r))
-    (subst (λ (t : Told). Follows volume before after (phase.Closed kept) t) (refused_away volume shape v r served) here) c is
 
 -- ---- a message of a node
 

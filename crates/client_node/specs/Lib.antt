@@ -1,2 +1,4 @@
+pub mod Opening
 pub mod Phases
+pub mod Asking
 pub mod Standing

@@ -20,7 +20,7 @@ shape_of node = shape_in node.phase
 abbrev pub newest_of : ClientNode → ℕ
 newest_of node = newest_in node.phase
 
--- It stands for that client of that volume: it is closed as that one is, or serves as it does.
+-- It stands for that client of that volume: it is closed as that one is, or serves or opens a session as it does.
 abbrev pub IsClient : ClientNode → Volume → Client → Type 0
 IsClient node volume c = Plays volume node.phase c
 
@@ -30,10 +30,10 @@ pub record IsTold (volume : Volume) (told : Told) (node : ClientNode) (step : St
   pub outs : step.outs.items ≡ map out_of_letter told.outs
   pub lines : step.lines.items ≡ told.lines
 
--- A request as a schedule gives it that opens no session: a write has at most 64 blocks, each of the volume's length.
-abbrev pub IsServed : Shape → Request → Type 0
-IsServed shape (request.Write batch) = (length batch ≤ 64) × AllByRecursion (λ (w : Write). length w.bytes ≡ shape.block) batch
-IsServed shape (request.Read b) = Unit {0}
-IsServed shape request.Barrier = Unit {0}
-IsServed shape (request.Restart session) = ⊥
-IsServed shape (request.Reassign session region) = ⊥
+-- A request as a schedule gives it: a write has at most 64 blocks, each of the volume's length.
+abbrev pub IsAsked : Shape → Request → Type 0
+IsAsked shape (request.Write batch) = (length batch ≤ 64) × AllByRecursion (λ (w : Write). length w.bytes ≡ shape.block) batch
+IsAsked shape (request.Read b) = Unit {0}
+IsAsked shape request.Barrier = Unit {0}
+IsAsked shape (request.Restart session) = Unit {0}
+IsAsked shape (request.Reassign session region) = Unit {0}

@@ -1,57 +1,27 @@
-//! What a client makes of requests and of messages, by its phase.
-ghost use Rattle.std.specs.Prelude.{◌≡◌, ◌<◌, ◌≤◌, ◌^◌, ◌++◌, ℕ, map, Ok, Err, Result, OnOk};
+//! What a client makes of messages, by its phase.
+ghost use Rattle.std.specs.Prelude.{◌≡◌, ℕ, Err, Ok, Result, OnOk};
 ghost use Rattle.salus_types.specs.Outcome.{Gives};
+ghost use Rattle.salus_types.specs.declared.names.Sender.TheVariants as sender;
 ghost use Rattle.salus_message.specs.declared.wire.Message.{Message as AnyMessage};
+ghost use Rattle.salus_message.specs.Ranges.{IsMessage};
 ghost use Rattle.salus_message.specs.Reading.{message_fault};
 ghost use Rattle.schedule_text.specs.declared.schedule.Volume.{Volume};
 ghost use Rattle.schedule_text.specs.Limits.{IsOfVolume};
 ghost use Rattle.salus_model.specs.Hearing.{news_from};
-ghost use Rattle.salus_types.specs.declared.names.Sender.TheVariants as sender;
 ghost use Rattle.client_rules.specs.State.{Client, Serving};
-ghost use Rattle.client_rules.specs.Rules.{received, requested, told, told_serving, ticked};
+ghost use Rattle.client_rules.specs.Rules.{received, told, told_serving};
 ghost use Rattle.client_premises.specs.Premises.{IsApart, MessageIsApart, ServingIsApart};
-ghost use Rattle.posting.specs.Letters.{out_of_letter};
 ghost use Rattle.serving_client.specs.Kept.{shape_of as serving_shape, GoesOn};
 ghost use Rattle.serving_client.specs.Standing.{IsTold, StandsFor};
-ghost use Rattle.client_node.specs.Phases.{Follows, Plays, newest_in, shape_in};
-ghost use Rattle.client_node.specs.Standing.{IsServed};
+ghost use Rattle.client_node.specs.Phases.{newest_in, shape_in, Follows, Opens, Plays};
 
 use crate::phase::Phase;
+use crate::replies::hear_reply;
 use client_asking::Step;
-use printed_lines::{Line, RequestRefusal};
 use salus_message::{Message, MessageError, decode};
-use salus_model::Request;
-use salus_types::{NoMemory, NodeName, Out};
+use salus_types::{NoMemory, NodeName};
 use serving_client::ServingClient;
 use std::alloc::Global;
-
-/// A client that serves takes the request or refuses it; a closed one refuses it.
-pub fn ask(
-    alloc: Global,
-    phase: &mut Phase,
-    event: u64,
-    request: Request,
-    step: &mut Step,
-) -> Result<(), NoMemory>
-    requires served { IsServed (shape_in phase.old) request }
-    requires later { newest_in phase.old < event }
-    requires event { event < 2 ^ 32 }
-    ensures rules { OnOk result ((volume : Volume) (c : Client) → Plays volume phase.old c → Follows volume step.old step.new phase.new (requested volume c event request)) }
-    ensures shape { shape_in phase.new ≡ shape_in phase.old }
-    ensures newest { newest_in phase.new ≤ event }
-{
-    match phase {
-        Phase::Serving(client) => {
-            client.request(alloc, event, request, step)?;
-            Ok(())
-        }
-        Phase::Closed(_) => {
-            let cause = RequestRefusal::Closed;
-            step.lines.push(Line::Refused { event, cause })?;
-            Ok(())
-        }
-    }
-}
 
 /// A message of a node to a client that serves. Those of an opening, and its own, are none of its.
 fn hear_serving(
@@ -98,6 +68,7 @@ fn hear(
     step: &mut Step,
 ) -> Result<(), NoMemory>
     requires from { IsOfVolume (shape_in phase.old) from }
+    requires in_format { IsMessage message }
     ensures rules { OnOk result ((volume : Volume) (c : Client) → Plays volume phase.old c → MessageIsApart volume c from message → Follows volume step.old step.new phase.new (received volume c from message)) }
     ensures shape { shape_in phase.new ≡ shape_in phase.old }
     ensures newest { newest_in phase.new ≡ newest_in phase.old }
@@ -107,8 +78,30 @@ fn hear(
             hear_serving(alloc, client, from, message, step)?;
             Ok(())
         }
+        Phase::Opening(_) => {
+            hear_opening(alloc, phase, from, message, step)?;
+            Ok(())
+        }
         Phase::Closed(_) => Ok(()),
     }
+}
+
+/// A message of a node to a client that opens a session.
+fn hear_opening(
+    alloc: Global,
+    phase: &mut Phase,
+    from: NodeName,
+    message: Message,
+    step: &mut Step,
+) -> Result<(), NoMemory>
+    requires from { IsOfVolume (shape_in phase.old) from }
+    requires in_format { IsMessage message }
+    ensures rules { OnOk result ((volume : Volume) (c : Client) → Opens volume phase.old c → MessageIsApart volume c from message → Follows volume step.old step.new phase.new (received volume c from message)) }
+    ensures shape { shape_in phase.new ≡ shape_in phase.old }
+    ensures newest { newest_in phase.new ≡ newest_in phase.old }
+{
+    *phase = hear_reply(alloc, phase.take(), from, message, step)?;
+    Ok(())
 }
 
 /// Bytes that don't decode are ignored; want of memory is none of theirs.
@@ -145,18 +138,5 @@ pub fn hear_bytes(
             ignore_undecoded(error)?;
             Ok(())
         }
-    }
-}
-
-/// What a client that serves waits for is sent again; a closed one waits for nothing.
-pub fn send_again(alloc: Global, phase: &Phase, outs: &mut Vec<Out>) -> Result<(), NoMemory>
-    ensures { OnOk result ((volume : Volume) (c : Client) → Plays volume phase.now c → outs.new.items ≡ outs.old.items ++ map out_of_letter (ticked volume.geometry c)) }
-{
-    match phase {
-        Phase::Serving(client) => {
-            client.tick(alloc, outs)?;
-            Ok(())
-        }
-        Phase::Closed(_) => Ok(()),
     }
 }

@@ -7,8 +7,10 @@ ghost use Rattle.client_rules.specs.Rules.{crashed, new_client, ticked, told};
 ghost use Rattle.client_premises.specs.Premises.{IsApart};
 ghost use Rattle.posting.specs.Letters.{out_of_letter};
 
-use crate::hearing::{ask, hear_bytes, send_again};
-use crate::phase::{ClosedClient, Phase};
+use crate::asking::ask;
+use crate::hearing::hear_bytes;
+use crate::phase::Phase;
+use crate::ticking::send_again;
 use crate::zeros::zero_roots;
 use client_asking::Step;
 use salus_hash::HmacKey;
@@ -16,7 +18,6 @@ use salus_model::Request;
 use salus_types::{Geometry, Items, NoMemory, Outs, Sender};
 use serving_client::ServingClient;
 use std::alloc::Global;
-use std::mem;
 
 /// The client of a volume. After an error it is used no more.
 #[derive(Drop)]
@@ -37,7 +38,7 @@ fn empty_step(alloc: Global) -> Step
 }
 
 impl ClientNode {
-    ghost use Rattle.client_node.specs.Standing.{IsClient, IsServed, IsTold, newest_of, shape_of};
+    ghost use Rattle.client_node.specs.Standing.{IsAsked, IsClient, IsTold, newest_of, shape_of};
 
     /// The client of a formatted volume: it serves session 1, and all blocks are zero.
     pub fn format(alloc: Global, geometry: Geometry, key: HmacKey) -> Result<ClientNode, NoMemory>
@@ -60,9 +61,10 @@ impl ClientNode {
         self.phase.geometry()
     }
 
-    /// A request of an event later than those of all requests before. It is moved into the waiting line where it is taken.
+    /// A request of an event later than those of all requests before. It is moved into the waiting line where it is taken. A
+    /// restart drops all that was held; a client that serves refuses it.
     pub fn request(&mut self, event: u64, request: Request) -> Result<Step, NoMemory>
-        requires served { IsServed (shape_of self.old) request }
+        requires asked { IsAsked (shape_of self.old) request }
         requires later { newest_of self.old < event }
         requires event { event < 2 ^ 32 }
         ensures rules { IfOk result (λ step. (volume : Volume) (c : Client) → IsClient self.old volume c → IsTold volume (told volume c event (Asks request)) self.new step) }
@@ -107,12 +109,6 @@ impl ClientNode {
         ensures shape { shape_of self.new ≡ shape_of self.old }
         ensures newest { newest_of self.new ≡ newest_of self.old }
     {
-        let hollow = Phase::Closed(ClosedClient {
-            geometry: self.phase.geometry(),
-            key: HmacKey::new(b"".as_slice()),
-            newest: self.phase.newest(),
-        });
-        let phase = mem::replace(&mut self.phase, hollow);
-        self.phase = phase.closed();
+        self.phase = self.phase.take().closed();
     }
 }

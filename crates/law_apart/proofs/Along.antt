@@ -39,7 +39,7 @@ use Rattle.law_apart.proofs.Strings.{array_strings, step_strings}
 -- ---- one step
 
 module _ (volume : Volume) (history : List Past) (judge : Judge) (n m : ℕ) where
-  serving_apart : (c : state.Serving) → Holds volume history judge n m (state.Serves c) → (name : NodeName) (msg : Message)
+  pub serving_apart : (c : state.Serving) → Holds volume history judge n m (state.Serves c) → (name : NodeName) (msg : Message)
       → NoTwoCollide (known_strings volume.geometry judge ++ news_strings volume.geometry (Says name msg)) → IsApart volume (state.Serves c) (Says name msg)
   unfolding IsApart
   serving_apart c h name (message.Part d) none = tt

@@ -1,5 +1,5 @@
-mod Kept
+pub mod Kept
 mod Sending
 mod Beginning
-mod Along
+pub mod Along
 pub mod Running

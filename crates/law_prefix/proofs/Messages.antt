@@ -130,7 +130,7 @@ module _ (v : Volume) (w : World) (good : Good v w) where
           (λ (h : (before : ℕ) × (t.front ≡ suc before) × Commits v w licence.held t.session before).
           subst (λ x. Settled v w.client w.images w.counts x) (sym h.1) (committed_settled k s h.0 h.2))
           (λ (h : IsFolded w.client licence.held t.session t.front).
-          subst (λ x. Settled v w.client w.images w.counts x) (sym h.number) (place_settled v w good t.node licence.held licence.was (licence.session ∙ s)))
+          settled_less v w.client w.images w.counts t.front licence.held.base h.number (place_settled v w good t.node licence.held licence.was (licence.session ∙ s)))
           licence.how;
     }
 

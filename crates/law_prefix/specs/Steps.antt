@@ -96,9 +96,9 @@ pub record Commits (v : Volume) (w : World) (held : Image) (e before : ℕ) : Ty
   pub votes : (r : ℕ) → v.honest r ≡ true → touches (w.client.lists e) before (v.region r) ≡ true → Voted w.votes r e before
   pub in_order : (before ≤ held.base) ⊎ AllClaim v w.claims (leader (w.client.lists e) (before - 1)) e before
 
--- the base is a folded one
+-- the number of a batch, at most that of the base
 pub record IsFolded (c : Client) (held : Image) (e x : ℕ) : Type 0 where
-  pub number : x ≡ held.base
+  pub number : x ≤ held.base
   pub batch : IsBatch c e (x - 1)
 
 pub record Licence (v : Volume) (w : World) (t : Claim) : Type 0 where

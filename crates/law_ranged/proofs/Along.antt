@@ -278,11 +278,15 @@ module _ (volume : Volume) (limits : IsVolume volume.geometry) (posts : List Pos
     none zero low = tt
     none (suc k) low = absurd (omega (arith, low))
 
+  -- of steps that are all of a run, or a front part of it
+  pub steps_within : (steps : List TraceStep) → AllWithin shape posts 1 steps → AreWellSent posts [] steps → NodesByRules shape (formatted volume) posts steps
+      → ClientByRules volume (new_client shape) posts steps → AllAddressed shape steps × AllHandSpelled posts steps × AllSentWithin volume posts steps
+  steps_within steps within well nodes client =
+      let all = along steps [] 1 (λ name. fresh shape name.region (formatted volume name)) (new_client shape) (omega arith) (omega arith) within well nodes client no_posts
+      (λ name. fresh_led shape limits name.region (formatted volume name)) (new_fits shape limits) in
+      (all.addressed, all.given, all.sent)
+
 pub runs_within : (volume : Volume) (events : List Event) (posts : List Posted) (trace : List TraceStep) → IsWithinLimits (record { volume = volume; events = events }) → Follows events posts trace
     → IsByRules volume (formatted_first volume) posts trace → AllAddressed volume.geometry trace × AllHandSpelled posts trace × AllSentWithin volume posts trace
 runs_within volume events posts trace limits follows by =
-    let shape : Shape = volume.geometry in
-    let all = along volume limits.volume posts trace [] 1 (λ name. fresh shape name.region (formatted volume name)) (new_client shape) (omega arith) (omega arith)
-    (schedule_within shape posts events trace limits.few limits.events follows) (well_sent posts events [] [] 1 trace follows) by.nodes by.client (no_posts volume limits.volume posts)
-    (λ name. fresh_led shape limits.volume name.region (formatted volume name)) (new_fits shape limits.volume) in
-    (all.addressed, all.given, all.sent)
+    steps_within volume limits.volume posts trace (schedule_within volume.geometry posts events trace limits.few limits.events follows) (well_sent posts events [] [] 1 trace follows) by.nodes by.client

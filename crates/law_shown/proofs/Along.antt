@@ -176,8 +176,12 @@ module _ (volume : Volume) (posts : List Posted) (limits : IsVolume volume.geome
             (subst (λ (l : List TraceStep). NodesByRules volume.geometry (formatted volume) posts l) (sym whole) right),
       )
 
+  -- of steps that are all of a run, or a front part of it
+  pub steps_show : (steps : List TraceStep) → AllHandSpelled posts steps → AllAddressed volume.geometry steps → AreWellSent posts [] steps
+      → NodesByRules volume.geometry (formatted volume) posts steps → NodesShowHanded volume posts [] steps
+  unfolding last_sent
+  steps_show steps given of sent right = all_show steps [] [] (record { count = refl; inside = λ x nothing. absurd nothing; given = tt }) given of sent right
+
 pub nodes_show : (volume : Volume) (events : List Event) (posts : List Posted) (trace : List TraceStep) → IsVolume volume.geometry → Follows events posts trace → AllHandSpelled posts trace
     → AllAddressed volume.geometry trace → NodesByRules volume.geometry (formatted volume) posts trace → NodesShowHanded volume posts [] trace
-unfolding last_sent
-nodes_show volume events posts trace limits follows given of right =
-    all_show volume posts limits trace [] [] (record { count = refl; inside = λ x nothing. absurd nothing; given = tt }) given of (well_sent posts events [] [] 1 trace follows) right
+nodes_show volume events posts trace limits follows given of right = steps_show volume posts limits trace given of (well_sent posts events [] [] 1 trace follows) right

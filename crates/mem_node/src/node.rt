@@ -1,5 +1,5 @@
-ghost use Rattle.std.specs.Prelude.{◌≡◌, ◌≤◌, ◌<◌, false, IfOk, OnOk};
-ghost use Rattle.std.specs.Option.{ForSome};
+ghost use Rattle.std.specs.Prelude.{◌≡◌, ◌≤◌, ◌<◌, false, option_map, IfOk, OnOk};
+ghost use Rattle.std.specs.Option.{ForSome, option_copied};
 ghost use Rattle.std.proofs.Props.{props};
 ghost use Rattle.salus_types.specs.Volume.{Shape, regions};
 ghost use Rattle.salus_types.specs.declared.names.NodeName.{NodeName as AnyName};
@@ -20,7 +20,7 @@ use crate::outcome::Outcome;
 use disk_model::MemDisk;
 use replica_node::ReplicaNode;
 use salus_hash::HmacKey;
-use salus_types::{Geometry, NoMemory, NodeName, Sender};
+use salus_types::{Geometry, Held, NoMemory, NodeName, Sender};
 use std::alloc::Global;
 
 /// A node over a disk in memory.
@@ -139,6 +139,26 @@ impl MemNode {
         let outcome = self.receive(from, bytes)?;
         self.crash(keep, fill)?;
         Ok(outcome)
+    }
+
+    /// Whether a call of its disk has failed since its load. It answers nothing then.
+    pub fn is_silent(&self) -> bool
+        ensures { (shape : Shape) (name : AnyName) (known : KnownNode) → Fits shape name known self.now → result ≡ known.silent }
+    {
+        match &self.node {
+            None => true,
+            Some(node) => node.is_silent(),
+        }
+    }
+
+    /// What it holds. Nothing is known of it after a call that found no memory.
+    pub fn held(&self) -> Option<&Held>
+        ensures { option_copied result ≡ option_map (λ n. n.checkpoint.store.held) self.now.node }
+    {
+        match &self.node {
+            None => None,
+            Some(node) => Some(node.held()),
+        }
     }
 
     // After so many further calls each call of its disk fails, until a crash.

@@ -5,7 +5,7 @@ use Rattle.salus_types.specs.declared.strike.Strike.TheVariants as strike
 use Rattle.printed_lines.specs.declared.line.Line.TheVariants as line
 use Rattle.printed_lines.specs.declared.line.RequestRefusal.TheVariants as refusal
 use Rattle.text_words.specs.Writing.{hex_text, block_text}
-use Rattle.printed_lines.specs.LineText.{strike_text, replica_text, cause_text, words_text, line_text, text_of, refusal_text}
+use Rattle.printed_lines.specs.LineText.{strike_text, replica_text, cause_text, words_text, line_text, text_of}
 
 pub two_lines : text_of (line.Submit 1 1 ∷ line.Read 3 0 (7 ∷ []) ∷ []) ≡ codes "submit 1 1" ++ 10 ∷ codes "read 3 0 *07" ++ 10 ∷ []
 unfolding line_text words_text block_text digits
@@ -58,7 +58,3 @@ refused_as_full = refl
 pub refused_in_flight : line_text (line.Refused 10 (refusal.Inflight 12 11 2)) ≡ codes "refused 10 inflight 12 11 2" ++ 10 ∷ []
 unfolding line_text words_text cause_text digits
 refused_in_flight = refl
-
-pub wrong_line : refusal_text 65538 ≡ codes "error 65538 later" ++ 10 ∷ []
-unfolding refusal_text digits
-wrong_line = refl

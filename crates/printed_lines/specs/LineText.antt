@@ -47,7 +47,3 @@ line_text l = words_text l ++ 10 ∷ []
 -- lines, one after another
 abbrev pub text_of : List Line → List ℕ
 text_of lines = flat_map line_text lines
-
--- the one line for a text that isn't a schedule, with the number of its first wrong line
-unfoldable pub refusal_text : ℕ → List ℕ
-refusal_text number = codes "error " ++ decimal number ++ codes " later" ++ 10 ∷ []

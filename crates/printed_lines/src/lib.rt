@@ -10,4 +10,4 @@ mod lines;
 mod strikes;
 
 pub use line::{Line, Lines, RequestRefusal};
-pub use lines::{text_of_lines, write_line, write_lines, write_refusal};
+pub use lines::{text_of_lines, write_line, write_lines};

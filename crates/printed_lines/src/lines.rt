@@ -1,5 +1,5 @@
 ghost use Rattle.std.specs.Prelude.{◌≡◌, ◌++◌, codes, decimal, OnOk, IfOk};
-ghost use Rattle.printed_lines.specs.LineText.{cause_text, words_text, line_text, text_of, refusal_text};
+ghost use Rattle.printed_lines.specs.LineText.{cause_text, words_text, line_text, text_of};
 
 use crate::strikes::put_strikes;
 use crate::{Line, Lines, RequestRefusal};
@@ -100,14 +100,4 @@ pub fn text_of_lines(alloc: Global, lines: &Lines) -> Result<Vec<u8>, NoMemory>
     let mut text = Vec::new(alloc);
     write_lines(lines, &mut text)?;
     Ok(text)
-}
-
-/// Writes the one line that answers a text which isn't a schedule; `number` is that of its first wrong line, and 0
-/// where the text is too long. After an error `out` is used no more.
-#[tactic(auto, unfolding(crate::specs::LineText::refusal_text))]
-pub fn write_refusal(number: u64, out: &mut Vec<u8>) -> Result<(), NoMemory>
-    ensures { OnOk result (out.new.items ≡ out.old.items ++ refusal_text number) }
-{
-    put_number(out, b"error ", number)?;
-    put(out, b" later\n")
 }

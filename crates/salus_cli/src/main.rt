@@ -2,6 +2,9 @@
 //! sink. It ends with the status of the command.
 #![tactic(auto)]
 
+mod usage;
+
+use crate::usage::usage_text;
 use salus_commands::{Report, salus};
 use salus_io::{StdSink, StdSource};
 use std::env;
@@ -42,10 +45,9 @@ fn status_of(rt: &HostRuntime) -> u8 {
     salus(rt.alloc(), &words, &mut source, &mut sink, &mut report)
 }
 
-/// What standard error is told of a status. Writing it takes no memory.
+/// What standard error is told of a status but that of wrong words. Writing it takes no memory.
 fn line_of(status: u8) -> Option<&'static str> {
     match status {
-        USAGE => Some("usage: salus replay < SCHEDULE"),
         SOURCE_FAILED => Some("salus: standard input could not be read"),
         SINK_FAILED => Some("salus: standard output could not be written"),
         NO_MEMORY => Some("salus: out of memory"),
@@ -53,8 +55,18 @@ fn line_of(status: u8) -> Option<&'static str> {
     }
 }
 
+/// Tells what the commands are, if there is memory for it.
+fn tell_usage(rt: &HostRuntime) {
+    if let Ok(text) = usage_text(rt.alloc()) {
+        let _ = eprint!(rt; "{text}");
+    }
+}
+
 fn main(rt: HostRuntime) -> ExitCode {
     let status = status_of(&rt);
+    if status == USAGE {
+        tell_usage(&rt);
+    }
     if let Some(line) = line_of(status) {
         let _ = eprintln!(rt; "{line}");
     }

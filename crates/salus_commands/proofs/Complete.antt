@@ -1,15 +1,10 @@
 -- A replay ends with no other status than it should.
 use Rattle.std.proofs.Common.{◌≡◌, ◌⊎◌, ℕ, List, [], ◌∷◌, Option, IfSome, inl, inr, subst}
 use Rattle.merkle_region.specs.Tree.{IsAmong}
-use Rattle.schedule_text.specs.declared.schedule.Schedule.{Schedule}
-use Rattle.schedule_text.specs.Grammar.{IsSchedule, sessions_of}
-use Rattle.salus_commands.specs.declared.refusal.Refusal.{Refusal}
-use Rattle.salus_commands.specs.declared.refusal.Refusal.TheVariants as refusal
 use Rattle.salus_commands.specs.declared.report.Report.{Report}
 use Rattle.salus_commands.specs.Refusing.{IsRefused}
 use Rattle.salus_commands.specs.Replaying.{RanSchedule}
 use Rattle.salus_commands.specs.Statuses.{HasSchedule, HasRefused, WroteRefusal}
-use Rattle.salus_commands.proofs.Asking.{do_ask}
 
 -- the statuses that are left
 pub done_or_memory : (status : ℕ) → IsAmong status (0 ∷ 3 ∷ 4 ∷ 5 ∷ 6 ∷ []) → (status ≡ 3 → ⊥) → (status ≡ 4 → ⊥) → (status ≡ 5 → ⊥) → (status ≡ 0) ⊎ (status ≡ 6)
@@ -28,17 +23,11 @@ refused_or_memory status (inr (inr (inr (inl five)))) ran source sink = absurd (
 refused_or_memory status (inr (inr (inr (inr (inl six))))) ran source sink = inr six
 refused_or_memory status (inr (inr (inr (inr (inr none))))) ran source sink = absurd none
 
--- no text is both a schedule's that can be run and refused
-not_both : (text : List ℕ) (why : Refusal) (schedule : Schedule) → IsRefused text why → IsSchedule text schedule → sessions_of schedule.events ≡ [] → ⊥
-not_both text (refusal.Wrong wrong) schedule refused means served = refused.0 schedule means
-not_both text (refusal.Later line) schedule refused means served =
-    do_ask refused.schedule.events line refused.first (subst (λ (s : Schedule). sessions_of s.events ≡ []) (refused.one schedule means) served)
-
 pub never_refused : (old new held_old held_new : Option (List ℕ)) → HasSchedule old → WroteRefusal old new held_old held_new → ⊥
 never_refused old new held_old held_new has wrote =
-    not_both has.text wrote.why has.schedule (subst (λ (left : Option (List ℕ)). IfSome left (λ text. IsRefused text wrote.why)) has.told wrote.refused.refused) has.means has.served
+    (subst (λ (left : Option (List ℕ)). IfSome left (λ text. IsRefused text wrote.why)) has.told wrote.refused.refused).1 has.schedule has.means
 
 pub never_ran : (old : Option (List ℕ)) (report : Report) → HasRefused old → RanSchedule old report → ⊥
 never_ran old report has ran =
     let same : has.text ≡ ran.text = subst (λ (left : Option (List ℕ)). IfSome left (λ bytes. bytes ≡ ran.text)) has.told ran.told in
-    not_both ran.text has.why ran.ran.schedule (subst (λ (text : List ℕ). IsRefused text has.why) same has.refused) ran.ran.means ran.ran.served
+    (subst (λ (text : List ℕ). IsRefused text has.why) same has.refused).1 ran.ran.schedule ran.ran.means

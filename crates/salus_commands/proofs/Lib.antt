@@ -1,5 +1,6 @@
-pub mod Asking
 pub mod Runs
 pub mod Sources
-pub mod OneWord
+pub mod Worded
+pub mod Spelled
 pub mod Complete
+pub mod Commanded

@@ -2,8 +2,7 @@
 use Rattle.std.proofs.Common.{◌≡◌, ◌<◌, ℕ, List, length, Option, None, Some, IfSome, inl, inr, refl, sym, subst, arith}
 use Rattle.salus_io.specs.Told.{IsAtEnd, ConsumesMore}
 use Rattle.schedule_text.specs.declared.error.Cause.TheVariants as cause
-use Rattle.salus_commands.specs.declared.refusal.Refusal.{Refusal}
-use Rattle.salus_commands.specs.declared.refusal.Refusal.TheVariants as refusal
+use Rattle.schedule_text.specs.declared.error.ScheduleError.{ScheduleError}
 use Rattle.salus_commands.specs.declared.report.Report.{Report}
 use Rattle.salus_commands.specs.Refusing.{IsRefused}
 use Rattle.salus_commands.specs.Statuses.{IsRefusedOf, PartOfText, RefusedText, WrotePart, WroteRefusal}
@@ -18,7 +17,7 @@ if_then P Q None gives holds = tt
 if_then P Q (Some text) gives holds = gives text holds
 
 -- a text that is refused was that of a source which was read to its end
-refused_of : (old new : Option (List ℕ)) (text : List ℕ) (why : Refusal) → IfSome old (λ left. left ≡ text) → IsAtEnd new → IsRefused text why → IsRefusedOf old new why
+refused_of : (old new : Option (List ℕ)) (text : List ℕ) (why : ScheduleError) → IfSome old (λ left. left ≡ text) → IsAtEnd new → IsRefused text why → IsRefusedOf old new why
 refused_of old new text why told ended refused = record {
   read = inl ended;
   refused = of_source (λ t. IsRefused t why) old text told refused;
@@ -47,11 +46,11 @@ part_of_source old new text report held_old held_new told ended (inr p) = inr (r
 
 -- ---- a text that is too long
 
-abbrev pub too_long : Refusal
-too_long = refusal.Wrong (record { line = 0; cause = cause.Long })
+abbrev pub too_long : ScheduleError
+too_long = record { line = 0; cause = cause.Long }
 
 long_refused : (text : List ℕ) → 67108864 < length text → IsRefused text too_long
-long_refused text long = (λ schedule means. let short = means.short in absurd (omega (arith, short)), inl (refl, refl, long))
+long_refused text long = (inl (refl, refl, long), λ schedule means. let short = means.short in absurd (omega (arith, short)))
 
 pub too_long_of : (old new : Option (List ℕ)) → ConsumesMore old new 67108864 → IfSome old (λ left. 67108864 < length left) → IsRefusedOf old new too_long
 too_long_of old new more long = record {

@@ -1,4 +1,6 @@
 pub mod Words
+pub mod Spelling
 pub mod Refusing
 pub mod Replaying
 pub mod Statuses
+pub mod Doing

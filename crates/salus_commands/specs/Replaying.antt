@@ -7,7 +7,8 @@ use Rattle.schedule_text.specs.Grammar.{IsSchedule, sessions_of}
 use Rattle.printed_lines.specs.declared.line.Line.{Line}
 use Rattle.salus_model.specs.declared.trace.TraceStep.{TraceStep}
 use Rattle.salus_model.specs.Following.{Posted, posts_of, Follows}
-use Rattle.salus_model.specs.Judge.{LegalHistory}
+use Rattle.salus_model.specs.Judge.{LegalHistory, KeepsAcknowledged}
+use Rattle.salus_model.specs.Guarding.{Guarded}
 use Rattle.salus_model.specs.Due.{lines_due, lines_from}
 use Rattle.salus_model.specs.Seen.{NoCollision}
 use Rattle.salus_model.specs.Forgery.{NoForgery}
@@ -17,6 +18,7 @@ use Rattle.run_rules.specs.Serving.{ClientByRules}
 use Rattle.run_rules.specs.Calm.{Calm}
 use Rattle.client_premises.specs.Behind.{ClientStepsBehind, LinesBehind}
 use Rattle.law_lines.specs.Running.{told_pasts}
+use Rattle.law_kept.specs.Losing.{NoneIsLost}
 use Rattle.salus_commands.specs.declared.report.Report.{Report}
 
 abbrev pub empty_report : Report
@@ -35,11 +37,18 @@ pub record IsRun (volume : Volume) (events : List Event) (posts : List Posted) (
   pub client_lines : LinesBehind volume posts (new_client volume.geometry) trace told
   -- the lines are those of the steps, with those of the events that are skipped in their places
   pub printed : lines ≡ lines_from volume events posts 0 1 events (told_pasts volume trace told)
-  -- Where no two different strings seen share a digest, the client goes by its rules throughout, and the lines are exactly those due.
-  pub by_rules : NoCollision volume events posts trace → ClientByRules volume (new_client volume.geometry) posts trace
-  pub exact : NoCollision volume events posts trace → lines ≡ lines_due volume events posts trace
-  -- Where besides no lie brings a forged tag, they are a legal history of one array.
+  -- Where no two different strings seen share a digest and no lie brings a forged tag, the client goes by its rules throughout, the
+  -- lines are exactly those due, and they are a legal history of one array.
+  pub by_rules : NoCollision volume events posts trace → NoForgery volume events posts trace → ClientByRules volume (new_client volume.geometry) posts trace
+  pub exact : NoCollision volume events posts trace → NoForgery volume events posts trace → lines ≡ lines_due volume events posts trace
   pub legal : NoCollision volume events posts trace → NoForgery volume events posts trace → LegalHistory volume.geometry events lines
+  -- Where besides no lie carries the client's name and each group has a node that counts at every step, every session starts from a
+  -- front part of the last list that has every acknowledged batch, and none is lost.
+  pub kept : NoCollision volume events posts trace → NoForgery volume events posts trace → Guarded volume events posts trace
+      → KeepsAcknowledged volume.geometry events lines × NoneIsLost lines
+  -- Where no event asks to open a session, the first two need no premise on tags.
+  pub closed_by_rules : sessions_of events ≡ [] → NoCollision volume events posts trace → ClientByRules volume (new_client volume.geometry) posts trace
+  pub closed_exact : sessions_of events ≡ [] → NoCollision volume events posts trace → lines ≡ lines_due volume events posts trace
 
 -- The report is that of a run of the schedule.
 pub record Replays (schedule : Schedule) (report : Report) : Type 0 where
@@ -47,11 +56,10 @@ pub record Replays (schedule : Schedule) (report : Report) : Type 0 where
   pub told : List (List Line)
   pub run : IsRun schedule.volume schedule.events (posts_of report.messages) trace told report.lines
 
--- The text is that of a schedule which asks to open no session, and the report is that of a run of this schedule.
+-- The text is that of a schedule, and the report is that of a run of this schedule.
 pub record RanText (text : List ℕ) (report : Report) : Type 0 where
   pub schedule : Schedule
   pub means : IsSchedule text schedule
-  pub served : sessions_of schedule.events ≡ []
   pub replays : Replays schedule report
 
 -- So of the text that a source had, if it tells what it had.

@@ -5,13 +5,15 @@
 //! array, if besides no lie brings a forged tag.
 #![tactic(auto)]
 
-mod command;
-mod reading;
+mod commanding;
+mod printing;
 mod refusal;
 mod replay;
 mod report;
+mod running;
+mod status;
 mod words;
 
-pub use command::salus;
-pub use refusal::Refusal;
+pub use commanding::salus;
 pub use report::Report;
+pub use words::{COMMANDS, Command, CommandHelp};

@@ -1,10 +1,11 @@
-ghost use Rattle.std.specs.Prelude.{◌≡◌, [], IfOk};
-ghost use Rattle.schedule_text.specs.Grammar.{sessions_of};
+ghost use Rattle.std.specs.Prelude.{IfOk};
 ghost use Rattle.schedule_text.specs.Limits.{IsWithinLimits};
 ghost use Rattle.salus_commands.specs.Replaying.{Replays};
 
 use crate::report::Report;
 use law_apart::runs_are_apart;
+use law_gathered::every_run_is_apart;
+use law_kept::nothing_acknowledged_is_lost;
 use law_whole::runs_by_rules_are_legal;
 use salus_types::NoMemory;
 use salus_world::run_schedule;
@@ -13,13 +14,14 @@ use std::alloc::Global;
 
 /// Runs a schedule whole, and reports its lines and messages.
 pub(crate) fn replay(alloc: Global, schedule: Schedule) -> Result<Report, NoMemory>
-    requires limits { IsWithinLimits schedule }
-    requires served { sessions_of schedule.events ≡ [] }
+    requires { IsWithinLimits schedule }
     ensures { IfOk result (Replays schedule) }
 {
     // The laws of whole runs: calls that do nothing, of which the clauses count.
+    every_run_is_apart();
     runs_are_apart();
     runs_by_rules_are_legal();
+    nothing_acknowledged_is_lost();
     let ran = run_schedule(alloc, schedule)?;
     Ok(Report {
         lines: ran.lines,

@@ -142,10 +142,31 @@ volume 2 1 4 2 78567d770ae891380ebb483be15a0c7431116ba675edabb213276a8c3a868dbc9
 volume 2 1 4 1 fed9cd~fail 0.0 8~settle 5~read 1~tick 0.0~crash 1.0 0 00~read 5~deliver 2~settle 5~write 6 *90 5 *eb 1 fa31895f~write 3 4fca7238 0 *54~deliver 6~settle 20~read 5~deliver 11~fail 1.0 6~deliver 28~crash 1.0 1 89~crash 1.0 5 97~read 5~write 4 *e3~write 3 217e2a32~read 13~write 1 *ab 2 47792a69 6 ddcb1eef 5 3f932e34 4 *01 3 *dc~deliver 30~deliver 31~deliver 32~deliver 33~deliver 34~deliver 36~deliver 35~deliver 26~deliver 27~deliver 29~read 6~write 7 1b651346 5 d4c14a6c 4 2596bf8a 0 4e8e097d 6 a44e8031 7 *fb~read 0~write 7 7f1cf8b9 5 620b3459 7 *fc~write 2 8b487b30~read 7~read 3~write 9223372036854775816 *13~deliver 39~deliver 41~deliver 42~deliver 43~deliver 44~deliver 45~deliver 46~deliver 47~deliver 48~deliver 49~deliver 37~deliver 37~deliver 38~barrier~read 2~crash 0.0 99 ff~deliver 40=read 6 5 *00~read 3 1 *00~submit 9 1~submit 10 2~ack 1~refused 22 range 13~read 13 5 *eb~read 19 5 *eb~submit 20 3~refused 41 range 9223372036854775816~submit 21 4~"
 }
 
+/// Runs in which a client opens a session anew: by a restart from what its servers hold, or by a reassignment of a region.
+fn opening_runs() -> &'static str {
+    "\
+volume 1 0 1 1 6b~write 0 *01 1 *01~write 0 *02 1 *02~settle 100~write 0 *03 1 *03~settle 4~deliver 27~drop 28~clientcrash~restart 2~settle 100~deliver 27~read 0~read 1~settle 20=submit 1 1~submit 2 2~ack 1~ack 2~submit 4 3~stage 2 from 1 2~open 2~read 12 0 *02~read 13 1 *02~
+volume 0 0 1 2 6b~write 0 *01~settle 100~write 0 *02~settle 4~deliver 22~drop 21~clientcrash~restart 2~settle 100~read 0~settle 10=submit 1 1~ack 1~submit 3 2~stage 2 from 1 2~open 2~read 10 0 *02~
+volume 0 0 1 2 6b~write 0 *01~settle 100~write 0 *02~settle 4~drop 22~drop 21~clientcrash~restart 2~settle 100~read 0~settle 10=submit 1 1~ack 1~submit 3 2~stage 2 from 1 1~open 2~read 10 0 *01~
+volume 0 0 1 1 6b~write 0 *01~settle 10~clientcrash~restart 2~deliver 7~deliver 8~deliver 9~deliver 10~clientcrash~restart 3~deliver 12~deliver 13~deliver 11~settle 20~read 0~settle 10~clientcrash~restart 4~settle 20=submit 1 1~ack 1~stage 2 from 1 1~stage 3 from 2 1~open 3~read 15 0 *01~stage 4 from 3 1~open 4~
+volume 1 0 1 1 6b~write 0 *01~reassign 2 0~settle 20~reassign 3 0~settle 50~read 0~settle 10=refused 2 inflight 1 0 0~submit 1 1~ack 1~stage 3 from 1 1~open 3~read 6 0 *01~
+volume 1 0 1 1 6b~write 0 *01~reassign 2 0~settle 20~reassign 3 0~lie 0.0 client 0d00000000000000010000000000000000000100000001000102~settle 50~read 0~settle 10=refused 2 inflight 1 0 0~submit 1 1~ack 1~stage 3 from 1 1~open 3~read 7 0 *01~
+volume 0 0 1 2 6b~write 0 *01~settle 100~replace 0.0~reassign 2 0~settle 100~replace 0.1~clientcrash~restart 3~settle 100~read 0~settle 10=submit 1 1~ack 1~stage 2 from 1 1~open 2~stage 3 from 2 1~open 3~read 10 0 *01~
+volume 0 0 1 2 6b~write 0 *01~settle 100~replace 0.0~replace 0.1~clientcrash~restart 3~settle 100~read 0~settle 10=submit 1 1~ack 1~lost 3~refused 8 closed~
+volume 1 0 1 1 6b~write 0 *01 1 *01~deliver 1~deliver 2~deliver 3~deliver 4~settle 100~clientcrash~restart 2~deliver 12~deliver 13~deliver 14~deliver 15~deliver 16~deliver 17~deliver 18~deliver 19~drop 20~drop 21~clientcrash~restart 3~deliver 22~deliver 23~deliver 24~deliver 25~deliver 26~deliver 27~deliver 28~deliver 29~deliver 21~settle 100~clientcrash~restart 4~settle 100=submit 1 1~ack 1~stage 2 from 1 1~stage 3 from 2 1~open 3~stage 4 from 3 1~open 4~
+volume 1 0 1 1 6b~write 0 *01 1 *01~deliver 1~deliver 2~deliver 3~deliver 4~settle 100~clientcrash~restart 2~deliver 12~deliver 13~deliver 14~deliver 15~deliver 16~deliver 18~drop 17~settle 100~clientcrash~restart 3~settle 100~read 0~settle 20=submit 1 1~ack 1~stage 2 from 1 1~stage 3 from 1 1~open 3~read 20 0 *01~
+volume 1 0 1 1 6b~write 0 *01~deliver 1~deliver 2~clientcrash~restart 2~deliver 4~deliver 3~deliver 7~deliver 9~drop 8~drop 10~deliver 5~settle 100~write 0 *02 1 *02~deliver 20~deliver 21~deliver 22~deliver 23~write 0 *03~deliver 26~drop 25~settle 100~clientcrash~restart 3~settle 100=submit 1 1~stage 2 from 1 0~open 2~submit 14 1~submit 19 2~stage 3 from 2 0~open 3~
+volume 1 0 1 1 6b~write 0 *01 1 *01~deliver 1~deliver 2~deliver 3~deliver 4~deliver 5~deliver 6~deliver 7~deliver 8~deliver 9~deliver 10~drop 11~write 0 *02 1 *02~deliver 12~deliver 13~deliver 14~deliver 15~deliver 16~deliver 17~deliver 18~deliver 19~deliver 20~deliver 21~drop 22~write 0 *03 1 *03~deliver 23~deliver 24~deliver 25~deliver 26~deliver 27~deliver 28~deliver 29~deliver 30~deliver 31~deliver 32~drop 33~write 0 *04 1 *04~deliver 34~deliver 35~deliver 36~deliver 37~deliver 38~deliver 39~deliver 40~deliver 41~deliver 42~deliver 43~drop 44~write 0 *05 1 *05~deliver 45~deliver 46~deliver 47~deliver 48~deliver 49~deliver 50~deliver 51~deliver 52~deliver 53~deliver 54~drop 55~write 0 *06 1 *06~deliver 56~deliver 57~deliver 58~deliver 59~deliver 60~deliver 61~deliver 62~deliver 63~deliver 64~deliver 65~drop 66~write 0 *07 1 *07~deliver 67~deliver 68~deliver 69~deliver 70~deliver 71~deliver 72~deliver 73~deliver 74~deliver 75~deliver 76~drop 77~write 0 *08 1 *08~deliver 78~deliver 79~deliver 80~deliver 81~deliver 82~deliver 83~deliver 84~deliver 85~deliver 86~deliver 87~drop 88~write 0 *09 1 *09~deliver 89~deliver 90~deliver 91~deliver 92~deliver 93~deliver 94~deliver 95~deliver 96~deliver 97~deliver 98~drop 99~write 0 *0a 1 *0a~deliver 100~deliver 101~deliver 102~deliver 103~deliver 104~deliver 105~deliver 106~deliver 107~deliver 108~deliver 109~drop 110~write 0 *0b 1 *0b~deliver 111~deliver 112~deliver 113~deliver 114~deliver 115~deliver 116~deliver 117~deliver 118~deliver 119~deliver 120~drop 121~write 0 *0c 1 *0c~deliver 122~deliver 123~deliver 124~deliver 125~deliver 126~deliver 127~deliver 128~deliver 129~deliver 130~deliver 131~drop 132~write 0 *0d 1 *0d~deliver 133~deliver 134~deliver 135~deliver 136~deliver 137~deliver 138~deliver 139~deliver 140~deliver 141~deliver 142~drop 143~write 0 *0e 1 *0e~deliver 144~deliver 145~deliver 146~deliver 147~deliver 148~deliver 149~deliver 150~deliver 151~deliver 152~deliver 153~drop 154~write 0 *0f 1 *0f~deliver 155~deliver 156~deliver 157~deliver 158~deliver 159~deliver 160~deliver 161~deliver 162~deliver 163~deliver 164~drop 165~write 0 *10 1 *10~deliver 166~deliver 167~deliver 168~deliver 169~deliver 170~deliver 171~deliver 172~deliver 173~deliver 174~deliver 175~drop 176~write 0 *11 1 *11~deliver 177~deliver 178~deliver 179~deliver 180~deliver 181~deliver 182~deliver 183~deliver 184~deliver 185~deliver 186~drop 187~write 0 *12 1 *12~deliver 188~deliver 189~deliver 190~deliver 191~deliver 192~deliver 193~deliver 194~deliver 195~deliver 196~deliver 197~drop 198~write 0 *13 1 *13~deliver 199~deliver 200~deliver 201~deliver 202~deliver 203~deliver 204~deliver 205~deliver 206~deliver 207~deliver 208~drop 209~write 0 *14 1 *14~deliver 210~deliver 211~deliver 212~deliver 213~deliver 214~deliver 215~deliver 216~deliver 217~deliver 218~deliver 219~drop 220~write 0 *15 1 *15~deliver 221~deliver 222~deliver 223~deliver 224~deliver 225~deliver 226~deliver 227~deliver 228~deliver 229~deliver 230~drop 231~write 0 *16 1 *16~deliver 232~deliver 233~deliver 234~deliver 235~deliver 236~deliver 237~deliver 238~deliver 239~deliver 240~deliver 241~drop 242~write 0 *17 1 *17~deliver 243~deliver 244~deliver 245~deliver 246~deliver 247~deliver 248~deliver 249~deliver 250~deliver 251~deliver 252~drop 253~write 0 *18 1 *18~deliver 254~deliver 255~deliver 256~deliver 257~deliver 258~deliver 259~deliver 260~deliver 261~deliver 262~deliver 263~drop 264~clientcrash~restart 2~deliver 265~deliver 266~deliver 267~deliver 268~deliver 269~deliver 270~deliver 271~deliver 272~deliver 264~settle 100~clientcrash~restart 3~settle 100=submit 1 1~ack 1~submit 13 2~ack 2~submit 25 3~ack 3~submit 37 4~ack 4~submit 49 5~ack 5~submit 61 6~ack 6~submit 73 7~ack 7~submit 85 8~ack 8~submit 97 9~ack 9~submit 109 10~ack 10~submit 121 11~ack 11~submit 133 12~ack 12~submit 145 13~ack 13~submit 157 14~ack 14~submit 169 15~ack 15~submit 181 16~ack 16~submit 193 17~ack 17~submit 205 18~ack 18~submit 217 19~ack 19~submit 229 20~ack 20~submit 241 21~ack 21~submit 253 22~ack 22~submit 265 23~ack 23~submit 277 24~ack 24~stage 2 from 1 24~open 2~stage 3 from 2 24~open 3~
+volume 0 0 1 1 6b~write 0 *07~settle 2~stop 3 4 0 01~clientcrash~restart 2~settle 100~read 0~settle 10=submit 1 1~stage 2 from 1 1~open 2~read 7 0 *07~
+volume 0 0 1 1 6b~write 0 *01~write 0 *02~write 0 *03~write 0 *04~write 0 *05~write 0 *06~write 0 *07~write 0 *08~write 0 *09~write 0 *0a~write 0 *0b~write 0 *0c~write 0 *0d~write 0 *0e~write 0 *0f~write 0 *10~settle 1000~write 0 *11~write 0 *12~write 0 *13~write 0 *14~write 0 *15~write 0 *16~write 0 *17~write 0 *18~settle 47~stop 144 4 0 00~clientcrash~restart 2~settle 200~read 0~settle 10=submit 1 1~submit 2 2~ack 1~submit 3 3~ack 2~submit 4 4~ack 3~submit 5 5~ack 4~submit 6 6~ack 5~submit 7 7~ack 6~submit 8 8~ack 7~submit 9 9~ack 8~submit 10 10~ack 9~submit 11 11~ack 10~submit 12 12~ack 11~submit 13 13~ack 12~submit 14 14~ack 13~submit 15 15~ack 14~submit 16 16~ack 15~ack 16~submit 18 17~submit 19 18~ack 17~submit 20 19~ack 18~submit 21 20~ack 19~submit 22 21~ack 20~submit 23 22~ack 21~submit 24 23~ack 22~submit 25 24~ack 23~ack 24~stage 2 from 1 24~open 2~read 31 0 *18~
+volume 0 0 1 1 6b~restart 2~reassign 3 9~clientcrash~reassign 4 0=refused 1 open~refused 2 range 9~refused 4 closed~"
+}
+
 #[test]
 fn schedules_are_run(rt: HostRuntime) {
     assert_eq!(rt; wrong_row(rt.alloc(), runs(), 0), None);
     assert_eq!(rt; wrong_row(rt.alloc(), rough_runs(), 0), None);
+    assert_eq!(rt; wrong_row(rt.alloc(), opening_runs(), 0), None);
 }
 
 /// A server whose disk stops after so many calls while it stores a part. Then it sends again what it holds.
@@ -246,10 +267,7 @@ volume 0 0 1 1 6b~write 0 0102=error 2 size~
 volume 0 0 1 1 6b~write=error 2 empty~
 volume 0 0 1 1 6b~restart 2~restart 2=error 3 order~
 volume 0 0 1 1 6b~reassign 1 0=error 2 order~
-volume 0 0 1 1 6b~restart 2~sleep=error 3 word~
-volume 0 0 1 1 6b~restart 2=error 2 later~
-volume 0 0 1 1 6b~reassign 2 0=error 2 later~
-volume 0 0 1 1 6b~write 0 *07~settle 10~reassign 2 0~restart 3=error 4 later~"
+volume 0 0 1 1 6b~restart 2~sleep=error 3 word~"
 }
 
 /// Whether a write of so many pairs is refused so.
@@ -296,8 +314,19 @@ fn other_words_are_refused(rt: HostRuntime) {
         "replay now",
         "Replay",
         "reply",
-        "trial 7 0",
         "replay replay",
+        "-- replay",
+        "--help",
+        "generate",
+        "generate 7",
+        "generate 7 0",
+        "generate 7 1 1",
+        "generate seven 1",
+        "trial 7 0",
+        "trial 07 5",
+        "trial 7 10001",
+        "trial 7 -1",
+        "trial 18446744073709551616 1",
     ] {
         match run_command(rt.alloc(), words, PLAIN.as_bytes(), 11, 0, 0) {
             Ok(outcome) => {
@@ -307,6 +336,58 @@ fn other_words_are_refused(rt: HostRuntime) {
             Err(_) => assert!(rt; false, "no memory for {words}"),
         }
     }
+}
+
+/// Words, and what is written.
+fn commands() -> &'static str {
+    "\
+generate 0 1=volume 4 8 256 3 6b~write 3519 *01~settle 1000~read 3519~settle 1000~barrier~
+generate 18446744073709551615 2=volume 4 8 256 3 6b~write 936 *ec~settle 1000~read 936~settle 1000~write 2743 *6a~settle 1000~read 2743~settle 1000~barrier~
+trial 7 1=events 5~submit 1~ack 1~read 1~fault 0~barrier 1~refused 0~
+trial 7 100=events 401~submit 100~ack 100~read 100~fault 0~barrier 1~refused 0~"
+}
+
+/// Whether the words of a row do so with a source that fails at once: they don't read it.
+fn is_done(alloc: Global, row: &str) -> Result<bool, NoMemory> {
+    let (words, written) = row.split_once('=').unwrap_or(("", ""));
+    let written = text_of(alloc, written, "", "")?;
+    let outcome = run_command(alloc, words, b"".as_slice(), 4096, 1, 0)?;
+    Ok(outcome.status == 0 && outcome.held.as_slice() == written.as_slice())
+}
+
+/// The same with a sink of pieces of 11 bytes whose second call fails: the status, and how much is written.
+fn cut_off(alloc: Global, words: &str) -> Result<(u8, usize), NoMemory> {
+    let outcome = run_command(alloc, words, b"".as_slice(), 11, 1, 2)?;
+    Ok((outcome.status, outcome.held.len()))
+}
+
+/// How many messages the trial sends.
+fn messages_of(alloc: Global, words: &str) -> Result<usize, NoMemory> {
+    let words = words_of(alloc, words)?;
+    let mut source = MemSource::new(alloc, Vec::new(alloc), 1);
+    let mut sink = MemSink::new(alloc, 4096);
+    let mut report = Report::new(alloc);
+    let _ = salus(alloc, &words, &mut source, &mut sink, &mut report);
+    Ok(report.messages.len())
+}
+
+#[test]
+fn schedules_are_generated_and_tried(rt: HostRuntime) {
+    for row in commands().lines() {
+        assert!(rt; matches!(is_done(rt.alloc(), row), Ok(true)), "{row}");
+    }
+    assert!(rt;
+        matches!(messages_of(rt.alloc(), "trial 7 10"), Ok(1710)),
+        "messages"
+    );
+    assert!(rt;
+        matches!(cut_off(rt.alloc(), "generate 0 1"), Ok((5, 11))),
+        "a part of a schedule"
+    );
+    assert!(rt;
+        matches!(cut_off(rt.alloc(), "trial 0 1"), Ok((5, 11))),
+        "a part of a summary"
+    );
 }
 
 /// The status where the call of that number fails, of the source or of the sink, each of pieces of 11 bytes; and whether what

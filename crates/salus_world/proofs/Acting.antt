@@ -1,5 +1,5 @@
 -- What each call of the world's parties gives of a course.
-use Rattle.std.proofs.Common.{◌≡◌, ◌∙◌, inl, inr, ℕ, ◌+◌, ◌^◌, ◌<◌, ◌≤◌, ◌==◌, Bool, true, false, not, ◌||◌, if◌then◌else◌, List, [], ◌∷◌, ◌++◌, map, length, reverse, slice_get, slice_set, Option, None, Some, refl, sym, ap, subst, append-nil, arith}
+use Rattle.std.proofs.Common.{◌≡◌, ◌∙◌, inl, inr, ℕ, zero, suc, ◌+◌, ◌-◌, nat_lt, ◌^◌, ◌<◌, ◌≤◌, ◌==◌, Bool, true, false, not, ◌||◌, if◌then◌else◌, List, [], ◌∷◌, ◌++◌, map, length, reverse, slice_get, slice_set, Option, None, Some, refl, sym, ap, subst, append-nil, arith}
 use Rattle.std.specs.Prelude.{is_some, option_map, flat_map}
 use Rattle.salus_types.specs.Volume.{Shape}
 use Rattle.salus_types.specs.declared.names.NodeName.{NodeName}
@@ -11,7 +11,7 @@ use Rattle.schedule_text.specs.declared.schedule.Volume.{Volume}
 use Rattle.schedule_text.specs.declared.schedule.Event.{Event}
 use Rattle.schedule_text.specs.declared.schedule.Event.TheVariants as event
 use Rattle.schedule_text.specs.Limits.{IsOfVolume, IsPartyOfVolume, IsWithin, IsEventWithin}
-use Rattle.schedule_text.specs.Grammar.{pair_values, session_of}
+use Rattle.schedule_text.specs.Grammar.{pair_values}
 use Rattle.salus_types.specs.declared.records.Write.{Write}
 use Rattle.std.specs.List.{AllByRecursion}
 use Rattle.printed_lines.specs.declared.line.Line.{Line}
@@ -38,10 +38,10 @@ use Rattle.law_ranged.proofs.Bounded.{ClientFits, RequestFits}
 use Rattle.law_ranged.proofs.Opened.{NewsWithin}
 use Rattle.client_asking.specs.declared.step.Step.{Step}
 use Rattle.client_node.specs.declared.node.ClientNode.{ClientNode}
-use Rattle.client_node.specs.Standing.{IsClient, IsServed, shape_of, newest_of, IsTold}
+use Rattle.client_node.specs.Standing.{IsClient, IsAsked, shape_of, newest_of, IsTold}
 use Rattle.mem_node.specs.declared.node.MemNode.{MemNode}
 use Rattle.mem_node.specs.declared.outcome.Outcome.{Outcome}
-use Rattle.mem_node.specs.Fitting.{held_in}
+use Rattle.mem_node.specs.Fitting.{held_in, IsCrashed, IsStopping}
 use Rattle.run_steps.specs.Steps.{IsFront}
 use Rattle.run_steps.specs.Waiting.{AreMarked}
 use Rattle.run_steps.specs.Parties.{posts_by}
@@ -50,16 +50,18 @@ use Rattle.run_steps.proofs.Sending.{heard, news_fit, asked_fit}
 use Rattle.salus_world.specs.declared.world.World.{World}
 use Rattle.salus_world.specs.Places.{ChangesAt, HasAnswered, HasStopped, HasCrashed, IsRenewed, IsNamed}
 use Rattle.salus_world.specs.Growing.{new_messages, mark_of, marks_of}
-use Rattle.salus_world.specs.Kept.{IsKept, HasStepped, HasDone, event_of}
+use Rattle.salus_world.specs.Kept.{IsKept, HasStepped, HasDone, IsExact, AtNode, StopsOn, event_of}
 use Rattle.salus_world.proofs.Mailing.{grown_posts, grown_marks, handed_marks}
 use Rattle.salus_world.proofs.NodeSteps.{IsRight, right_input, right_stop, stopped_among, right_crash, right_replace, posted_index, posted_sent, node_kept}
 use Rattle.salus_world.proofs.ClientSteps as told_by
 use Rattle.salus_world.proofs.ClientSteps.{IsAnswer, StaysFit, client_kept, answer_told}
 use Rattle.salus_world.proofs.Doing.{stepped_done, failing_done, index_sent, same_front, quiet_kept, next_kept}
-use Rattle.run_steps.proofs.Fronts.{front_along}
+use Rattle.run_steps.proofs.Fronts.{front_along, whole_front}
 use Rattle.list_lemmas.proofs.Members.{among_all}
 use Rattle.list_lemmas.proofs.Lists.{get_among}
 use Rattle.std.proofs.lemmas.Option.{none-some, same_Some}
+use Rattle.std.proofs.lemmas.Bool.{ltb-true, false≢true}
+use Rattle.list_lemmas.proofs.Tests.{by_bool}
 use Rattle.run_steps.proofs.Eventing.{no_step}
 use Rattle.std.proofs.lemmas.List.{length-map}
 use Rattle.volume_model.specs.Groups.{is_client}
@@ -134,13 +136,13 @@ module _ (volume : Volume) (all : List Event) (b n : ℕ) (old new : World) (c :
           (posts_now (sender.Node name) outs mid added) (marked _ refl) client lines added.geometry
 
       -- its disk stopped meanwhile
-      pub stopped_kept : (input : Input) (outcome : Outcome) → outcome.outs ≡ outs → ChangesAt place old.nodes.items new.nodes.items (HasStopped input outcome)
+      pub stopped_kept : (input : Input) (outcome : Outcome) (calls keep fill : ℕ) → outcome.outs ≡ outs → ChangesAt place old.nodes.items new.nodes.items (HasStopped calls keep fill input outcome)
           → ((posts : List Posted) → IsFront (posts_of old.sent.items) posts → input_of posts what ≡ Some input)
           → ((posts : List Posted) (known : KnownNode) (held : Held) → IsAmong held (after_handed shape name.region posts known what outcome.failed).contents → LoadsRight shape name.region posts known what outcome.failed (Some held))
           → true ≡ loads what → is_stop what ≡ true → HasStepped volume all b n (sender.Node name) what old new c
-      stopped_kept input outcome same change given right loading stops =
-          let changed = changes (HasStopped input outcome) change in
-          node_kept volume all b n old new c kept name of_volume what outcome.failed (Some (held_in changed.is)) outs (HasStopped input outcome) changed loading
+      stopped_kept input outcome calls keep fill same change given right loading stops =
+          let changed = changes (HasStopped calls keep fill input outcome) change in
+          node_kept volume all b n old new c kept name of_volume what outcome.failed (Some (held_in changed.is)) outs (HasStopped calls keep fill input outcome) changed loading
           (λ posts known front fits.
           let s = changed.how.stopped shape name known fits in
           subst (λ (l : List Out). IsRight shape name posts known what outcome.failed (Some (held_in changed.is)) l changed.is) same
@@ -155,10 +157,10 @@ module _ (volume : Volume) (all : List Event) (b n : ℕ) (old new : World) (c :
       none_posted : Posts (sender.Node name) [] old.sent.items old new
       none_posted = record { sent = sent ∙ sym (append-nil old.sent.items); posts = refl; lowest = lowest; geometry = geometry }
 
-      pub crash_kept : ChangesAt place old.nodes.items new.nodes.items HasCrashed → HasStepped volume all b n (sender.Node name) handed.Crash old new c
-      crash_kept change =
-          let changed = changes HasCrashed change in
-          node_kept volume all b n old new c kept name of_volume handed.Crash false (Some (held_in changed.is)) [] HasCrashed changed refl
+      pub crash_kept : (keep fill : ℕ) → ChangesAt place old.nodes.items new.nodes.items (HasCrashed keep fill) → HasStepped volume all b n (sender.Node name) handed.Crash old new c
+      crash_kept keep fill change =
+          let changed = changes (HasCrashed keep fill) change in
+          node_kept volume all b n old new c kept name of_volume handed.Crash false (Some (held_in changed.is)) [] (HasCrashed keep fill) changed refl
           (λ posts known front fits. right_crash shape name posts known changed.is (changed.how.reloaded shape name known fits))
           (inr (λ unharmed. refl)) (λ unharmed. changed.how.unharmed)
           (posts_now (sender.Node name) [] old.sent.items none_posted) (marks_same (sender.Node name) [] old.sent.items none_posted handed.Crash refl (λ k. refl) _ refl) client lines geometry
@@ -252,18 +254,36 @@ asked_step posts earlier dropped n request.Barrier steps one = one
 asked_step posts earlier dropped n (request.Restart session) steps one = one
 asked_step posts earlier dropped n (request.Reassign session region) steps one = one
 
-served_fits : (shape : Shape) (r : Request) → IsServed shape r → RequestFits shape r
-served_fits s (request.Write batch) served = served
-served_fits s (request.Read block) served = tt
-served_fits shape request.Barrier served = tt
-served_fits s (request.Restart session) served = absurd served
-served_fits s (request.Reassign session region) served = absurd served
+asked_exact : (r : Request) (old new : World) → IsExact (event_of r) old new
+asked_exact (request.Write batch) old new = tt
+asked_exact (request.Read block) old new = tt
+asked_exact request.Barrier old new = tt
+asked_exact (request.Restart session) old new = tt
+asked_exact (request.Reassign session region) old new = tt
 
-pub asked_done : (volume : Volume) (all : List Event) (n : ℕ) (old new : World) (c : Course) (r : Request) (step : Step) → n < 2 ^ 32 → (kept : IsKept volume all n n old c) → IsServed old.geometry r
+-- what a schedule in its limits asks of the client
+pub asked_of : (shape : Shape) (r : Request) → IsEventWithin shape (event_of r) → IsAsked shape r
+asked_of s (request.Write batch) within = (within.1.1, sized batch within.0) where
+  sized : (batch : List Write) → AllByRecursion (IsWithin s) (flat_map pair_values batch) → AllByRecursion (λ w. length w.bytes ≡ s.block) batch
+  sized [] all = tt
+  sized (w ∷ batch) all = (all.1.0, sized batch all.1.1)
+asked_of s (request.Read block) within = tt
+asked_of s request.Barrier within = tt
+asked_of s (request.Restart session) within = tt
+asked_of s (request.Reassign session region) within = tt
+
+asked_fits : (shape : Shape) (r : Request) → IsEventWithin shape (event_of r) → RequestFits shape r
+asked_fits s (request.Write batch) within = asked_of s (request.Write batch) within
+asked_fits s (request.Read block) within = tt
+asked_fits s request.Barrier within = tt
+asked_fits s (request.Restart session) within = within.0.0
+asked_fits s (request.Reassign session region) within = within.0.0
+
+pub asked_done : (volume : Volume) (all : List Event) (n : ℕ) (old new : World) (c : Course) (r : Request) (step : Step) → n < 2 ^ 32 → (kept : IsKept volume all n n old c) → IsEventWithin old.geometry (event_of r)
     → Posts sender.Client step.outs.items old.sent.items old new → new.nodes.items ≡ old.nodes.items → new.lines.items ≡ old.lines.items ++ step.lines.items
     → ((d : Client) → IsClient old.client volume d → IsTold volume (told volume d n (Asks r)) new.client step) → shape_of new.client ≡ shape_of old.client → newest_of new.client ≤ n
     → HasDone volume all n (event_of r) old new c
-asked_done volume all n old new c r step low kept served added nodes lines rules shape_same newest =
+asked_done volume all n old new c r step low kept within added nodes lines rules shape_same newest =
     let outs : List Out = step.outs.items in
     let said : List Line = step.lines.items in
     let what : Handed = handed.Asked r in
@@ -273,44 +293,54 @@ asked_done volume all n old new c r step low kept served added nodes lines rules
     client_kept volume all n (n + 1) n old new c kept what outs said refl (omega arith) (omega (arith, low))
     (λ posts front d is apart. answer_told volume posts n what step_now.sent (Asks r) new.client step d refl refl (rules d is))
     (λ posts front d f.
-    asked_fit volume kept.limits posts n kept.some (omega (arith, few)) d step_now n r refl refl (omega arith) low (served_fits volume.geometry r (subst (λ (s : Shape). IsServed s r) kept.geometry served)) f)
+    asked_fit volume kept.limits posts n kept.some (omega (arith, few)) d step_now n r refl refl (omega arith) low (asked_fits volume.geometry r (subst (λ (s : Shape). IsEventWithin s (event_of r)) kept.geometry within)) f)
     (posts_now volume all n n old new c kept sender.Client outs old.sent.items added)
     (marks_same volume all n n old new c kept sender.Client outs old.sent.items added what refl (λ k. refl) step_now refl) nodes lines added.geometry shape_same (omega (arith, newest)) in
     stepped_done volume all (n + 1) n (event_of r) old new c sender.Client what kept.some (omega arith) low s (λ posts front. asked_skips posts (sent_so_far c) r)
-    (λ posts front one. asked_step posts (reverse c.trace) c.dropped n r (s.step ∷ []) one) (asked_drops (sent_so_far c) c.dropped r)
+    (λ posts front one. asked_step posts (reverse c.trace) c.dropped n r (s.step ∷ []) one) (asked_drops (sent_so_far c) c.dropped r) (asked_exact r old new)
 
 -- ---- events of one step
+
+node_same : (a b : NodeName) → sender.Node a ≡ sender.Node b → a ≡ b
+node_same a b same = cc
 
 module _ (volume : Volume) (all : List Event) (n : ℕ) (old new : World) (c : Course) (low : n < 2 ^ 32) (kept : IsKept volume all n n old c) where
   module _ (name : NodeName) (of : IsOfVolume old.geometry name) (place : ℕ) (there : place ≡ node_place old.geometry name)
       (sent : new.sent.items ≡ old.sent.items) (lowest : new.lowest ≡ old.lowest) (geometry : new.geometry ≡ old.geometry) (client : new.client ≡ old.client) (lines : new.lines.items ≡ old.lines.items) where
-    pub crash_done : (keep fill : ℕ) → ChangesAt place old.nodes.items new.nodes.items HasCrashed → HasDone volume all n (event.Crash name keep fill) old new c
+    -- how the node at the place became another one
+    exactly : (How Less : MemNode → MemNode → Type 0) → ((was is : MemNode) → How was is → Less was is) → ChangesAt place old.nodes.items new.nodes.items How → AtNode name Less old new
+    exactly How Less less change =
+        let changed = subst (λ (p : ℕ). ChangesAt p old.nodes.items new.nodes.items How) there change in
+        record { was = changed.was; is = changed.is; there = changed.there; set = changed.set; how = less changed.was changed.is changed.how }
+
+    pub crash_done : (keep fill : ℕ) → ChangesAt place old.nodes.items new.nodes.items (HasCrashed keep fill) → HasDone volume all n (event.Crash name keep fill) old new c
     crash_done keep fill change =
         stepped_done volume all n n (event.Crash name keep fill) old new c (sender.Node name) handed.Crash kept.some (omega arith) low
-        (crash_kept volume all n n old new c kept name of place there sent lowest geometry client lines change) (λ posts front. refl) (λ posts front one. one) refl
+        (crash_kept volume all n n old new c kept name of place there sent lowest geometry client lines keep fill change) (λ posts front. refl) (λ posts front one. one) refl
+        (exactly (HasCrashed keep fill) (IsCrashed keep fill) (λ was is how. how.exact) change)
 
     pub replace_done : ChangesAt place old.nodes.items new.nodes.items IsRenewed → HasDone volume all n (event.Replace name) old new c
     replace_done change =
         stepped_done volume all n n (event.Replace name) old new c (sender.Node name) handed.Replace kept.some (omega arith) low
-        (replace_kept volume all n n old new c kept name of place there sent lowest geometry client lines change) (λ posts front. refl) (λ posts front one. one) refl
+        (replace_kept volume all n n old new c kept name of place there sent lowest geometry client lines change) (λ posts front. refl) (λ posts front one. one) refl tt
 
-    pub fail_done : (call : ℕ) → event_at all n ≡ Some (event.Fail name call) → ChangesAt place old.nodes.items new.nodes.items IsNamed → HasDone volume all n (event.Fail name call) old new c
+    pub fail_done : (call : ℕ) → event_at all n ≡ Some (event.Fail name call) → ChangesAt place old.nodes.items new.nodes.items (IsNamed call) → HasDone volume all n (event.Fail name call) old new c
     fail_done call asked change =
         failing_done volume all n name call old new c low asked kept (of_volume volume all n n old new c kept name of place there)
-        (changes volume all n n old new c kept name of place there IsNamed change) sent lowest client lines geometry
+        (changes volume all n n old new c kept name of place there (IsNamed call) change) sent lowest client lines geometry
 
   pub client_crash_done : new.sent.items ≡ old.sent.items → new.lowest ≡ old.lowest → new.geometry ≡ old.geometry → new.nodes.items ≡ old.nodes.items → new.lines.items ≡ old.lines.items
       → ((d : Client) → IsClient old.client volume d → IsClient new.client volume crashed.client) → shape_of new.client ≡ shape_of old.client → newest_of new.client ≡ newest_of old.client
       → HasDone volume all n event.ClientCrash old new c
   client_crash_done sent lowest geometry nodes lines rules shape_same newest =
       stepped_done volume all n n event.ClientCrash old new c sender.Client handed.ClientCrash kept.some (omega arith) low
-      (client_crash_kept volume all n n old new c kept sent lowest geometry nodes lines rules shape_same newest) (λ posts front. refl) (λ posts front one. one) refl
+      (client_crash_kept volume all n n old new c kept sent lowest geometry nodes lines rules shape_same newest) (λ posts front. refl) (λ posts front one. one) refl tt
 
   pub lie_done : (from to : Sender) (bytes : List ℕ) → HasStepped volume all n n to (handed.Lie from bytes) old new c → HasDone volume all n (event.Lie from to bytes) old new c
-  lie_done from to bytes s = stepped_done volume all n n (event.Lie from to bytes) old new c to (handed.Lie from bytes) kept.some (omega arith) low s (λ posts front. refl) (λ posts front one. one) refl
+  lie_done from to bytes s = stepped_done volume all n n (event.Lie from to bytes) old new c to (handed.Lie from bytes) kept.some (omega arith) low s (λ posts front. refl) (λ posts front one. one) refl tt
 
   pub tick_done : (party : Sender) → HasStepped volume all n n party handed.Tick old new c → HasDone volume all n (event.Tick party) old new c
-  tick_done party s = stepped_done volume all n n (event.Tick party) old new c party handed.Tick kept.some (omega arith) low s (λ posts front. refl) (λ posts front one. one) refl
+  tick_done party s = stepped_done volume all n n (event.Tick party) old new c party handed.Tick kept.some (omega arith) low s (λ posts front. refl) (λ posts front one. one) refl tt
 
   -- ---- by the number of a message
 
@@ -329,10 +359,11 @@ module _ (volume : Volume) (all : List Event) (n : ℕ) (old new : World) (c : C
             message = m;
             known = known_at_number posts (front_along (posts_of old.sent.items) (posts_of new.sent.items) posts s.more front);
             one = subst (λ (k : ℕ). IsOneStep posts (reverse c.trace) n m.to (handed.Deliver k) (s.step ∷ [])) (sym is) one;
-          }) refl
+          }) refl tt
 
-      pub stop_done : (name : NodeName) (calls keep fill : ℕ) → m.to ≡ sender.Node name → HasStepped volume all n n (sender.Node name) (handed.Stop (index + 1)) old new c → HasDone volume all n (event.Stop message calls keep fill) old new c
-      stop_done name calls keep fill to s =
+      pub stop_done : (name : NodeName) (calls keep fill : ℕ) → m.to ≡ sender.Node name → HasStepped volume all n n (sender.Node name) (handed.Stop (index + 1)) old new c → AtNode name (StopsOn calls keep fill m) old new
+          → HasDone volume all n (event.Stop message calls keep fill) old new c
+      stop_done name calls keep fill to s exact =
           let known : (posts : List Posted) → IsFront (posts_of new.sent.items) posts → posted_at posts message ≡ Some m =
           λ posts front. known_at_number posts (front_along (posts_of old.sent.items) (posts_of new.sent.items) posts s.more front) in
           stepped_done volume all n n (event.Stop message calls keep fill) old new c (sender.Node name) (handed.Stop (index + 1)) kept.some (omega arith) low s
@@ -345,6 +376,17 @@ module _ (volume : Volume) (all : List Event) (n : ℕ) (old new : World) (c : C
             one = subst (λ (p : Sender). IsOneStep posts (reverse c.trace) n p (handed.Stop message) (s.step ∷ [])) (sym to)
                 (subst (λ (k : ℕ). IsOneStep posts (reverse c.trace) n (sender.Node name) (handed.Stop k) (s.step ∷ [])) (sym is) one);
           }) refl
+          (λ p other at also.
+          let same : m ≡ p = same_Some m p (sym (known_at_number (posts_of old.sent.items) (whole_front (posts_of old.sent.items))) ∙ at) in
+          let named : sender.Node name ≡ sender.Node other = sym to ∙ (ap (λ (q : Posted). q.to) same ∙ also) in
+          subst (λ (q : Posted). AtNode other (StopsOn calls keep fill q) old new) same (subst (λ (x : NodeName). AtNode x (StopsOn calls keep fill m) old new) (node_same name other named) exact))
+
+      -- no node stops on one to the client
+      pub client_exact : (calls keep fill : ℕ) → m.to ≡ sender.Client → IsExact (event.Stop message calls keep fill) old new
+      client_exact calls keep fill to = λ p other at also.
+          let same : m ≡ p = same_Some m p (sym (known_at_number (posts_of old.sent.items) (whole_front (posts_of old.sent.items))) ∙ at) in
+          let both : sender.Client ≡ sender.Node other = sym to ∙ (ap (λ (q : Posted). q.to) same ∙ also) in
+          absurd (cc)
 
       -- it would stop one to the client
       pub stop_skips : (calls keep fill : ℕ) → m.to ≡ sender.Client → new.sent.items ≡ old.sent.items → (posts : List Posted) → IsFront (posts_of new.sent.items) posts
@@ -365,6 +407,7 @@ module _ (volume : Volume) (all : List Event) (n : ℕ) (old new : World) (c : C
         let course : Course = record { trace = c.trace; dropped = dropped; told = c.told; lines = c.lines } in
         record {
           course = course;
+          exact = tt;
           more = same_front (posts_of old.sent.items) (posts_of new.sent.items) posts;
           event = λ later front. no_step later n (event.Drop message) c dropped (ap not is_there) refl
               (sym (ap (λ (b : Bool). if b then message ∷ c.dropped else c.dropped) is_there ∙ ap (λ (k : ℕ). k ∷ c.dropped) is));
@@ -386,12 +429,6 @@ same_message sent index m p at also = same_Some (posted m) p (sym (posted_sent s
 
 -- ---- what a schedule in its limits gives
 
-pub write_served : (shape : Shape) (batch : List Write) → IsEventWithin shape (event.Write batch) → IsServed shape (request.Write batch)
-write_served s batch within = (within.1.1, sized batch within.0) where
-  sized : (batch : List Write) → AllByRecursion (IsWithin s) (flat_map pair_values batch) → AllByRecursion (λ w. length w.bytes ≡ s.block) batch
-  sized [] all = tt
-  sized (w ∷ batch) all = (all.1.0, sized batch all.1.1)
-
 -- the same where the event is one of these
 pub within_at : (shape : Shape) (e f : Event) → e ≡ f → IsEventWithin shape e → IsEventWithin shape f
 within_at shape e f is within = subst (λ (x : Event). IsEventWithin shape x) is within
@@ -399,5 +436,30 @@ within_at shape e f is within = subst (λ (x : Event). IsEventWithin shape x) is
 pub unsent : (volume : Volume) (all : List Event) (n : ℕ) (w : World) (c : Course) → IsKept volume all n n w c → (k : ℕ) → is_sent (length w.sent.items) k ≡ false → is_sent (sent_so_far c) k ≡ false
 unsent volume all n w c kept k none = ap (λ (count : ℕ). is_sent count k) kept.count ∙ none
 
-pub not_asked : (e : Event) (session : ℕ) → session_of e ≡ None → session_of e ≡ Some session → ⊥
-not_asked e session none some = none-some session (sym none ∙ some)
+-- a message that isn't sent stops none
+pub unsent_exact : (old new : World) (message calls keep fill : ℕ) → is_sent (length old.sent.items) message ≡ false → IsExact (event.Stop message calls keep fill) old new
+unsent_exact old new message calls keep fill none = λ p other at also.
+    let long = length-map old.sent.items posted in
+    absurd (not_there (posts_of old.sent.items) message p at (ap (λ (count : ℕ). is_sent count message) long ∙ none))
+  where
+    far : {A : Type 0} (xs : List A) (i : ℕ) (x : A) → slice_get xs i ≡ Some x → i < length xs
+    far [] i x at = absurd (none-some x at)
+    far (y ∷ xs) zero x at = omega arith
+    far (y ∷ xs) (suc i) x at = let rest = far xs i x at in omega (arith, rest)
+
+    not_there : (posts : List Posted) (k : ℕ) (p : Posted) → posted_at posts k ≡ Some p → is_sent (length posts) k ≡ false → ⊥
+    not_there posts k p at none =
+        by_bool (nat_lt 0 k) ⊥
+        (λ e.
+        let up : 0 < k = ltb-true 0 k e in
+        let low = far posts (k - 1) p (sym (ap (λ (b : Bool). if b then slice_get posts (k - 1) else None) e) ∙ at) in
+        let here : is_sent (length posts) k ≡ true = index_sent (length posts) k (k - 1) (omega (arith, up)) low in
+        absurd (false≢true (sym none ∙ here)))
+        (λ e. none-some p (sym (ap (λ (b : Bool). if b then slice_get posts (k - 1) else None) e) ∙ at))
+
+-- the node has handled the message while its disk stopped
+pub stopped_exact : (outcome : Outcome) (calls keep fill : ℕ) (input : Input) (p : Posted) → input ≡ input_of_post p → (old new : List MemNode) (place there : ℕ) → place ≡ there
+    → ChangesAt place old new (HasStopped calls keep fill input outcome) → ChangesAt there old new (StopsOn calls keep fill p)
+stopped_exact outcome calls keep fill input p same old new place there is change =
+    let changed = subst (λ (k : ℕ). ChangesAt k old new (HasStopped calls keep fill input outcome)) is change in
+    record { was = changed.was; is = changed.is; there = changed.there; set = changed.set; how = (outcome, subst (λ (i : Input). IsStopping calls keep fill i outcome changed.was changed.is) same changed.how.exact) }

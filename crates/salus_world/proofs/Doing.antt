@@ -43,7 +43,7 @@ use Rattle.run_steps.proofs.Eventing.{one_event, no_step, skipped_event}
 use Rattle.salus_world.specs.declared.world.World.{World}
 use Rattle.salus_world.specs.Places.{FitAll, SureAll, ChangesAt, IsNamed}
 use Rattle.salus_world.specs.Growing.{marks_of}
-use Rattle.salus_world.specs.Kept.{IsRun, IsKept, HasStepped, HasDone, event_of}
+use Rattle.salus_world.specs.Kept.{IsRun, IsKept, HasStepped, HasDone, IsExact, event_of}
 use Rattle.salus_world.proofs.Seats.{count_stays, changed_fits, changed_sure}
 use Rattle.salus_world.proofs.NodeSteps.{posted_index}
 
@@ -125,8 +125,9 @@ pub stepped_done : (volume : Volume) (all : List Event) (b n : ℕ) (e : Event) 
     → (s : HasStepped volume all b n party what old new c)
     → ((posts : List Posted) → IsFront (posts_of new.sent.items) posts → is_skipped posts (sent_so_far c) e ≡ false)
     → ((posts : List Posted) → IsFront (posts_of new.sent.items) posts → IsOneStep posts (reverse c.trace) n party what (s.step ∷ []) → AreStepsOf posts (reverse c.trace) c.dropped n e (s.step ∷ []))
-    → dropped_after (sent_so_far c) c.dropped e ≡ c.dropped → HasDone volume all n e old new c
-stepped_done volume all b n e old new c party what some up low s goes are same = record {
+    → dropped_after (sent_so_far c) c.dropped e ≡ c.dropped → IsExact e old new → HasDone volume all n e old new c
+stepped_done volume all b n e old new c party what some up low s goes are same exact = record {
+  exact = exact;
   course = with_step c s.step s.said;
   more = s.more;
   event = λ posts front. one_event posts n e c s.step s.said (goes posts front) s.number (are posts front (record { step = s.step; only = refl; is_step = s.is_step posts front })) same;
@@ -142,8 +143,8 @@ index_sent count k i is inside = rw (lt-ltb 0 k (omega (arith, is)), le-leb k co
 pub skipped_done : (volume : Volume) (all : List Event) (n : ℕ) (e : Event) (old new : World) (c : Course) → n < 2 ^ 32 → IsKept volume all n n old c
     → ((posts : List Posted) → IsFront (posts_of new.sent.items) posts → is_skipped posts (sent_so_far c) e ≡ true) → dropped_after (sent_so_far c) c.dropped e ≡ c.dropped
     → new.sent.items ≡ old.sent.items → new.lowest ≡ old.lowest → new.nodes.items ≡ old.nodes.items → new.client ≡ old.client → new.lines.items ≡ old.lines.items ++ skip_line n e → new.geometry ≡ old.geometry
-    → HasDone volume all n e old new c
-skipped_done volume all n e old new c low kept skips same sent lowest nodes client said geometry =
+    → IsExact e old new → HasDone volume all n e old new c
+skipped_done volume all n e old new c low kept skips same sent lowest nodes client said geometry exact =
     let posts : posts_of new.sent.items ≡ posts_of old.sent.items = ap posts_of sent in
     let marked : AreMarked (reverse c.trace) c.dropped new.lowest (marks_of new.sent.items) =
     subst (λ (k : ℕ). AreMarked (reverse c.trace) c.dropped k (marks_of new.sent.items)) (sym lowest) (subst (λ (l : List Sent). AreMarked (reverse c.trace) c.dropped old.lowest (marks_of l)) (sym sent) kept.marked) in
@@ -151,6 +152,7 @@ skipped_done volume all n e old new c low kept skips same sent lowest nodes clie
     record {
       course = course;
       more = same_front (posts_of old.sent.items) (posts_of new.sent.items) posts;
+      exact = exact;
       event = λ later front. skipped_event later n e c (skips later front) same;
       kept = next_kept volume all n n new course (quiet_kept volume all n n old new c c.dropped (c.lines ++ skip_line n e) kept posts marked nodes client (said ∙ ap (λ (l : List Line). l ++ skip_line n e) kept.lines) geometry)
           kept.some (omega arith) (omega (arith, low));
@@ -159,7 +161,7 @@ skipped_done volume all n e old new c low kept skips same sent lowest nodes clie
 -- ---- an event that names a call to fail
 
 pub failing_done : (volume : Volume) (all : List Event) (n : ℕ) (name : NodeName) (call : ℕ) (old new : World) (c : Course) → n < 2 ^ 32 → event_at all n ≡ Some (event.Fail name call) → IsKept volume all n n old c → (of : IsOfVolume volume.geometry name)
-    → (change : ChangesAt (node_place volume.geometry name) old.nodes.items new.nodes.items IsNamed)
+    → (change : ChangesAt (node_place volume.geometry name) old.nodes.items new.nodes.items (IsNamed call))
     → new.sent.items ≡ old.sent.items → new.lowest ≡ old.lowest → new.client ≡ old.client → new.lines.items ≡ old.lines.items → new.geometry ≡ old.geometry
     → HasDone volume all n (event.Fail name call) old new c
 failing_done volume all n name call old new c low asked kept of change sent lowest client said geometry =
@@ -169,13 +171,20 @@ failing_done volume all n name call old new c low asked kept of change sent lowe
     subst (λ (k : ℕ). AreMarked (reverse c.trace) c.dropped k (marks_of new.sent.items)) (sym lowest) (subst (λ (l : List Sent). AreMarked (reverse c.trace) c.dropped old.lowest (marks_of l)) (sym sent) kept.marked) in
     let named : (other : NodeName) → names_failing other (event_at all n) ≡ same_node name other = λ other. ap (λ (o : Option Event). names_failing other o) asked in
     let sure : SureAll shape (is_harmed all (reverse c.trace) (n + 1)) new.nodes.items =
-    changed_sure shape old.nodes.items new.nodes.items name of IsNamed change (is_harmed all (reverse c.trace) n) (is_harmed all (reverse c.trace) (n + 1)) kept.sure
+    changed_sure shape old.nodes.items new.nodes.items name of (IsNamed call) change (is_harmed all (reverse c.trace) n) (is_harmed all (reverse c.trace) (n + 1)) kept.sure
     (λ calm. absurd (itself name (sym (named name) ∙ (harmed_next all (reverse c.trace) n name kept.some kept.numbered calm).1)))
     (λ other differs calm. (harmed_next all (reverse c.trace) n other kept.some kept.numbered calm).0) in
     let course : Course = record { trace = c.trace; dropped = c.dropped; told = c.told; lines = c.lines } in
     record {
       course = course;
       more = same_front (posts_of old.sent.items) (posts_of new.sent.items) posts;
+      exact = record {
+        was = change.was;
+        is = change.is;
+        there = subst (λ (s : Shape). slice_get old.nodes.items (node_place s name) ≡ Some change.was) (sym kept.geometry) change.there;
+        set = change.set ∙ ap (λ (s : Shape). slice_set old.nodes.items (node_place s name) change.is) (sym kept.geometry);
+        how = change.how.exact;
+      };
       event = λ later front. no_step later n (event.Fail name call) c c.dropped refl refl refl;
       kept = record {
         limits = kept.limits;
@@ -185,8 +194,8 @@ failing_done volume all n name call old new c low asked kept of change sent lowe
             let run : IsRun volume n c.trace c.told old.nodes.items old.client later = kept.runs later (subst (λ (l : List Posted). IsFront l later) posts front) in
             record {
               made = run.made;
-              nodes_fit = changed_fits shape old.nodes.items new.nodes.items name of IsNamed change (known_at volume later c.trace) (known_at volume later c.trace) run.nodes_fit
-                  (change.how shape name (known_at volume later c.trace name) (run.nodes_fit name of change.was change.there)) (λ other differs. refl);
+              nodes_fit = changed_fits shape old.nodes.items new.nodes.items name of (IsNamed call) change (known_at volume later c.trace) (known_at volume later c.trace) run.nodes_fit
+                  (change.how.same shape name (known_at volume later c.trace name) (run.nodes_fit name of change.was change.there)) (λ other differs. refl);
               client_is = subst (λ (cl : ClientNode). OfClient volume later c.trace (λ d. IsClient cl volume d × ClientFits shape (n + 1) d)) (sym client)
                   (behind_map volume later (new_client shape) c.trace (λ d. IsClient old.client volume d × ClientFits shape n d) (λ d. IsClient old.client volume d × ClientFits shape (n + 1) d)
                   (λ d is. (is.0, client_wider shape n (n + 1) d (omega arith) is.1)) run.client_is);
@@ -201,7 +210,7 @@ failing_done volume all n name call old new c low asked kept of change sent lowe
         geometry = geometry ∙ kept.geometry;
         shape = ap shape_of client ∙ kept.shape;
         newest = subst (λ (cl : ClientNode). newest_of cl < n + 1) (sym client) (let below = kept.newest in omega (arith, below));
-        count_nodes = count_stays shape old.nodes.items new.nodes.items name of IsNamed change ∙ kept.count_nodes;
+        count_nodes = count_stays shape old.nodes.items new.nodes.items name of (IsNamed call) change ∙ kept.count_nodes;
       };
     }
   where

@@ -1,19 +1,21 @@
 -- A `settle` goes on and ends, and so does a run.
 use Rattle.std.proofs.Common.{◌≡◌, ◌∙◌, ◌⊎◌, inl, inr, ℕ, zero, suc, ◌+◌, ◌-◌, ◌^◌, ◌<◌, ◌≤◌, Bool, true, false, nat_lt, if◌then◌else◌, List, [], ◌∷◌, ◌++◌, length, reverse, slice_get, Option, None, Some, refl, sym, ap, subst, append-nil, length-append, arith}
-use Rattle.std.specs.Prelude.{option_to_list}
 use Rattle.std.specs.List.{AllByRecursion}
 use Rattle.salus_types.specs.Volume.{IsVolume, nodes}
 use Rattle.schedule_text.specs.Limits.{IsPartyOfVolume}
-use Rattle.schedule_text.specs.Grammar.{session_of, sessions_of}
 use Rattle.client_rules.specs.Rules.{new_client}
 use Rattle.client_premises.specs.Behind.{Behind, ClientStepsBehind, LinesBehind}
 use Rattle.run_rules.specs.Running.{known_of, AllSteps}
 use Rattle.run_rules.specs.Calm.{is_harmed, CalmFrom}
 use Rattle.law_ranged.proofs.Opened.{new_fits}
 use Rattle.list_lemmas.proofs.Each.{all_split}
+use Rattle.client_node.specs.declared.node.ClientNode.{ClientNode}
 use Rattle.client_node.specs.Standing.{IsClient, shape_of, newest_of}
+use Rattle.client_premises.proofs.Along.{behind_map}
+use Rattle.law_ranged.proofs.Bounded.{ClientFits}
+use Rattle.mem_node.specs.declared.node.MemNode.{MemNode}
 use Rattle.run_steps.proofs.Marking.{none_marked}
-use Rattle.salus_world.specs.Places.{AreFormatted}
+use Rattle.salus_world.specs.Places.{AreFormatted, FitAll}
 use Rattle.salus_world.proofs.Seats.{formatted_fit, formatted_sure}
 use Rattle.std.proofs.lemmas.Bool.{lt-ltb}
 use Rattle.std.proofs.lemmas.List.{length-map, length_push}
@@ -30,7 +32,7 @@ use Rattle.salus_model.specs.Following.{Posted, posted, posts_of, sent_by, next_
 use Rattle.run_course.specs.Course.{Course, Goes, IsEvent, no_course, sent_so_far}
 use Rattle.run_course.proofs.Going.{goes_push, goes_none}
 use Rattle.list_lemmas.proofs.Lists.{get_after}
-use Rattle.run_steps.specs.Steps.{IsFront, with_step}
+use Rattle.run_steps.specs.Steps.{IsFront, known_at, OfClient, with_step}
 use Rattle.run_steps.specs.Waiting.{AreMarked}
 use Rattle.run_steps.specs.Settling.{Settled}
 use Rattle.run_steps.proofs.Fronts.{whole_front, front_along}
@@ -38,8 +40,9 @@ use Rattle.run_steps.proofs.Marking.{passed_on, next_is, next_none}
 use Rattle.run_steps.proofs.Eventing.{none_settled, settled_push, settled_event}
 use Rattle.salus_world.specs.declared.world.World.{World}
 use Rattle.salus_world.specs.Growing.{mark_of, marks_of}
-use Rattle.salus_world.specs.Kept.{IsKept, HasStepped, HasSettled, HasDone, HasRun, StepsAt, Does}
-use Rattle.salus_world.specs.Runs.{Runs}
+use Rattle.salus_world.specs.Kept.{IsKept, HasStepped, HasSettled, HasDone, HasDelivered, HasNoneLeft, HasRun, Went, StepsAt, DeliversNext, Does}
+use Rattle.salus_world.specs.declared.ran.Ran.{Ran}
+use Rattle.salus_world.specs.Runs.{Runs, Ends}
 use Rattle.salus_world.proofs.Doing.{quiet_kept, next_kept, same_front}
 use Rattle.salus_world.proofs.NodeSteps.{posted_index}
 
@@ -59,68 +62,40 @@ module _ (volume : Volume) (all : List Event) (n : ℕ) (was : World) (c : Cours
     kept = kept;
   }
 
-  -- the messages that wait are looked for
-  module _ (done : ℕ) (now mid : World) (s : HasSettled volume all n done was now c) (sent : mid.sent.items ≡ now.sent.items) (nodes : mid.nodes.items ≡ now.nodes.items) (client : mid.client ≡ now.client)
-      (lines : mid.lines.items ≡ now.lines.items) (geometry : mid.geometry ≡ now.geometry) (passed : (k : ℕ) → now.lowest ≤ k → k < mid.lowest → slice_get (marks_of now.sent.items) k ≡ Some true) where
-    marked : AreMarked (reverse s.course.trace) s.course.dropped mid.lowest (marks_of now.sent.items)
-    marked = passed_on (reverse s.course.trace) s.course.dropped now.lowest (marks_of now.sent.items) s.kept.marked mid.lowest passed
+  -- the next one is delivered
+  pub one_settled : (done k : ℕ) (now later : World) → HasSettled volume all n done was now c → DeliversNext (Some k) now later → HasSettled volume all n (done + 1) was later c
+  one_settled done k now later s next =
+      let d : HasDelivered volume all n n k now later s.course = next volume all n n s.course s.kept in
+      let one : HasStepped volume all n n d.message.to (handed.Deliver k) now later s.course = d.stepped in
+      record {
+        course = with_step s.course one.step one.said;
+        more = front_along (posts_of was.sent.items) (posts_of now.sent.items) (posts_of later.sent.items) s.more one.more;
+        settled = λ posts front.
+            let before : IsFront (posts_of now.sent.items) posts = front_along (posts_of now.sent.items) (posts_of later.sent.items) posts one.more front in
+            settled_push posts n done c s.course one.step one.said (s.settled posts before) one.number
+            (record { k = k; lowest = d.lowest; message = d.message; known = d.known posts before; is_step = one.is_step posts front });
+        kept = one.kept;
+      }
 
-    mid_kept : IsKept volume all n n mid s.course
-    mid_kept =
-        quiet_kept volume all n n now mid s.course s.course.dropped s.course.lines s.kept (ap posts_of sent)
-        (subst (λ (l : List Sent). AreMarked (reverse s.course.trace) s.course.dropped mid.lowest (marks_of l)) (sym sent) marked) nodes client (lines ∙ s.kept.lines) geometry
-
-    count : sent_by (reverse s.course.trace) ≡ length (marks_of now.sent.items)
-    count = s.kept.count ∙ sym (length-map now.sent.items mark_of)
-
-    pub mid_settled : HasSettled volume all n done was mid c
-    mid_settled = record {
-      course = s.course;
-      more = front_along (posts_of was.sent.items) (posts_of now.sent.items) (posts_of mid.sent.items) s.more (same_front (posts_of now.sent.items) (posts_of mid.sent.items) (ap posts_of sent));
-      settled = λ posts front. s.settled posts (subst (λ (l : List Posted). IsFront l posts) (ap posts_of sent) front);
-      kept = mid_kept;
-    }
-
-    -- the next one is delivered
-    pub one_settled : (later : World) → mid.lowest < length now.sent.items → slice_get (marks_of now.sent.items) mid.lowest ≡ Some false → StepsAt mid.lowest mid later → HasSettled volume all n (done + 1) was later c
-    unfolding mid_settled
-    one_settled later inside waits steps =
-        let i : ℕ = mid.lowest in
-        let long = length-map mid.sent.items posted in
-        let same = ap length sent in
-        let at = some_at (posts_of mid.sent.items) i (omega (arith, inside, long, same)) in
-        let m : Posted = at.0 in
-        let one : HasStepped volume all n n m.to (handed.Deliver (i + 1)) mid later s.course = steps volume all n n s.course m mid_kept at.1 in
-        let lowest : next_waiting (reverse s.course.trace) s.course.dropped ≡ Some (i + 1) =
-        next_is (reverse s.course.trace) s.course.dropped i (marks_of now.sent.items) marked count (let marks = length-map now.sent.items mark_of in omega (arith, inside, marks)) waits in
-        record {
-          course = with_step s.course one.step one.said;
-          more = front_along (posts_of was.sent.items) (posts_of mid.sent.items) (posts_of later.sent.items) mid_settled.more one.more;
-          settled = λ posts front.
-              let before : IsFront (posts_of mid.sent.items) posts = front_along (posts_of mid.sent.items) (posts_of later.sent.items) posts one.more front in
-              settled_push posts n done c s.course one.step one.said (mid_settled.settled posts before) one.number
-              (record { k = i + 1; lowest = lowest; message = m; known = posted_index (posts_of mid.sent.items) posts i m before at.1; is_step = one.is_step posts front });
-          kept = one.kept;
-        }
-
-    -- none is left
-    pub all_settled : (number : ℕ) → length now.sent.items ≤ mid.lowest → done ≤ number → n < 2 ^ 32 → HasDone volume all n (event.Settle number) was mid c
-    unfolding mid_settled
-    all_settled number none few low =
-        let left : next_waiting (reverse s.course.trace) s.course.dropped ≡ None =
-        next_none (reverse s.course.trace) s.course.dropped mid.lowest (marks_of now.sent.items) marked count (let marks = length-map now.sent.items mark_of in omega (arith, none, marks)) in
-        record {
-          course = s.course;
-          more = mid_settled.more;
-          event = λ posts front. settled_event posts n number done c s.course (mid_settled.settled posts front) few (inr left);
-          kept = next_kept volume all n n mid s.course mid_kept mid_kept.some (omega arith) (omega (arith, low));
-        }
+  -- none is left
+  pub all_settled : (done number : ℕ) (now mid : World) → HasSettled volume all n done was now c → DeliversNext None now mid → done ≤ number → n < 2 ^ 32 → HasDone volume all n (event.Settle number) was mid c
+  all_settled done number now mid s next few low =
+      let e : HasNoneLeft volume all n n now mid s.course = next volume all n n s.course s.kept in
+      record {
+        course = s.course;
+        more = front_along (posts_of was.sent.items) (posts_of now.sent.items) (posts_of mid.sent.items) s.more e.more;
+        exact = tt;
+        event = λ posts front.
+            settled_event posts n number done c s.course (s.settled posts (front_along (posts_of now.sent.items) (posts_of mid.sent.items) posts e.more front)) few (inr e.none);
+        kept = next_kept volume all n n mid s.course e.kept e.kept.some (omega arith) (omega (arith, low));
+      }
 
   -- as many as wanted
   pub enough_settled : (done number : ℕ) (now : World) → HasSettled volume all n done was now c → done ≡ number → n < 2 ^ 32 → HasDone volume all n (event.Settle number) was now c
   enough_settled done number now s same low = record {
     course = s.course;
     more = s.more;
+    exact = tt;
     event = λ posts front. settled_event posts n number done c s.course (s.settled posts front) (omega (arith, same)) (inl same);
     kept = next_kept volume all n n now s.course s.kept s.kept.some (omega arith) (omega (arith, low));
   }
@@ -133,12 +108,27 @@ event_here before rest e n is =
     ∙ (ap (λ (k : ℕ). slice_get (before ++ e ∷ rest) k) (omega (arith, is)) ∙ get_after before rest e)
 
 module _ (volume : Volume) (all : List Event) where
-  pub none_run : (world : World) → IsKept volume all 1 1 world no_course → HasRun volume all [] world
-  none_run world kept = record { course = no_course; goes = λ posts front. goes_none posts 1 no_course; kept = kept }
+  went_one : (e : Event) (n k : ℕ) (was mid now : World) (first c : Course) → was ≡ mid → first ≡ c → n ≡ k → (d : HasDone volume all k e mid now c) → Went volume all n (e ∷ []) was now first d.course
+  unfolding Went
+  went_one e n k was mid now first c world course number =
+      subst (λ (j : ℕ). (d : HasDone volume all j e mid now c) → Went volume all n (e ∷ []) was now first d.course) number
+      (subst (λ (f : Course). (d : HasDone volume all n e mid now f) → Went volume all n (e ∷ []) was now first d.course) course
+      (subst (λ (w : World). (d : HasDone volume all n e w now first) → Went volume all n (e ∷ []) was now first d.course) world
+      (λ d. (now, d, (refl, refl)))))
 
-  pub one_run : (events : List Event) (e : Event) (n : ℕ) (mid now : World) → HasRun volume all events mid → n ≡ length events + 1 → n < 2 ^ 32 → event_at all n ≡ Some e → Does n e mid now
-      → HasRun volume all (events ++ e ∷ []) now
-  one_run events e n mid now r is low at does =
+  went_push : (n k : ℕ) (events : List Event) (e : Event) (was mid now : World) (first c : Course) → Went volume all n events was mid first c → k ≡ n + length events → (d : HasDone volume all k e mid now c)
+      → Went volume all n (events ++ e ∷ []) was now first d.course
+  unfolding Went
+  went_push n k [] e was mid now first c so_far is d = went_one e n k was mid now first c so_far.0 so_far.1 (omega (arith, is)) d
+  went_push n k (x ∷ events) e was mid now first c so_far is d = (so_far.0, so_far.1, went_push (n + 1) k events e so_far.0 mid now so_far.1.course c so_far.2 (omega (arith, is)) d)
+
+  pub none_run : (world : World) → IsKept volume all 1 1 world no_course → HasRun volume all [] world world
+  unfolding Went
+  none_run world kept = record { course = no_course; goes = λ posts front. goes_none posts 1 no_course; went = (refl, refl); kept = kept }
+
+  pub one_run : (events : List Event) (e : Event) (n : ℕ) (start mid now : World) → HasRun volume all events start mid → n ≡ length events + 1 → n < 2 ^ 32 → event_at all n ≡ Some e → Does n e mid now
+      → HasRun volume all (events ++ e ∷ []) start now
+  one_run events e n start mid now r is low at does =
       let done : HasDone volume all n e mid now r.course = does volume all r.course low at (subst (λ (k : ℕ). IsKept volume all k k mid r.course) (sym is) r.kept) in
       let next : n + 1 ≡ length (events ++ e ∷ []) + 1 = (let long = length_push events e in omega (arith, is, long)) in
       record {
@@ -146,23 +136,38 @@ module _ (volume : Volume) (all : List Event) where
         goes = λ posts front.
             goes_push posts 1 events e no_course r.course done.course (r.goes posts (front_along (posts_of mid.sent.items) (posts_of now.sent.items) posts done.more front))
             (subst (λ (k : ℕ). IsEvent posts k e r.course done.course) (omega (arith, is)) (done.event posts front));
+        went = went_push 1 n events e start mid now no_course r.course r.went (omega (arith, is)) done;
         kept = subst (λ (k : ℕ). IsKept volume all k k now done.course) next done.kept;
       }
 
-  pub run_told : (world : World) → HasRun volume all all world → Runs volume all world.lines.items (posts_of world.sent.items)
-  run_told world r =
-      let posts : List Posted = posts_of world.sent.items in
-      let front : IsFront posts posts = whole_front posts in
+  pub run_ends : (start world : World) (ran : Ran) → IsKept volume all 1 1 start no_course → HasRun volume all all start world
+      → ran.lines ≡ world.lines.items → ran.messages ≡ world.sent.items → ran.nodes.items ≡ world.nodes.items → ran.client ≡ world.client → Ends volume all ran
+  run_ends start world ran begun r lines messages nodes client =
+      let posts : List Posted = posts_of ran.messages in
+      let trace : List TraceStep = r.course.trace in
+      let front : IsFront (posts_of world.sent.items) posts =
+      subst (λ (l : List Sent). IsFront (posts_of world.sent.items) (posts_of l)) (sym messages) (whole_front (posts_of world.sent.items)) in
       let run = r.kept.runs posts front in
       record {
-        course = r.course;
-        goes = r.goes posts front;
-        all = r.kept.count ∙ sym (length-map world.sent.items posted);
-        calm = r.kept.calm;
-        nodes = run.made.nodes;
-        client = run.made.client;
-        told = run.made.lines;
-        lines_told = r.kept.lines;
+        runs = record {
+          course = r.course;
+          goes = r.goes posts front;
+          all = r.kept.count ∙ (sym (length-map world.sent.items posted) ∙ ap (λ (l : List Sent). length (posts_of l)) (sym messages));
+          calm = r.kept.calm;
+          nodes = run.made.nodes;
+          client = run.made.client;
+          told = run.made.lines;
+          lines_told = lines ∙ r.kept.lines;
+        };
+        nodes = subst (λ (l : List MemNode). FitAll volume.geometry (known_at volume posts trace) l) (sym nodes) run.nodes_fit;
+        client = subst (λ (cl : ClientNode). OfClient volume posts trace (λ d. IsClient cl volume d)) (sym client)
+            (behind_map volume posts (new_client volume.geometry) trace (λ d. IsClient world.client volume d × ClientFits volume.geometry (length all + 1) d) (λ d. IsClient world.client volume d) (λ d is. is.0) run.client_is);
+        first = start;
+        last = world;
+        begun = begun;
+        went = r.went;
+        same_nodes = nodes;
+        same_client = client;
       }
 
 -- a message that is there, as it was posted
@@ -174,18 +179,6 @@ some_posted sent index inside = let long = length-map sent posted in some_at (po
 module _ (all done rest : List Event) (e : Event) (split : all ≡ done ++ e ∷ rest) where
   pub next_all : (P : Event → Type 0) → AllByRecursion P all → P e
   next_all P every = (all_split P done (e ∷ rest) (subst (λ (l : List Event). AllByRecursion P l) split every)).1.0
-
-  pub next_unasked : sessions_of all ≡ [] → session_of e ≡ None
-  next_unasked none = found done (sym (ap sessions_of split) ∙ none) where
-    found : (done : List Event) → sessions_of (done ++ e ∷ rest) ≡ [] → session_of e ≡ None
-    found [] here = first (session_of e) (sessions_of rest) here where
-      first : (o : Option ℕ) (l : List ℕ) → option_to_list o ++ l ≡ [] → o ≡ None
-      first None l is = refl
-      first (Some session) l is = absurd (cc)
-    found (x ∷ done) here = found done (behind (option_to_list (session_of x)) (sessions_of (done ++ e ∷ rest)) here) where
-      behind : (xs ys : List ℕ) → xs ++ ys ≡ [] → ys ≡ []
-      behind [] ys is = is
-      behind (x ∷ xs) ys is = absurd (cc)
 
   pub next_below : length done < length all
   next_below = let long = ap length split in let both = length-append done (e ∷ rest) in omega (arith, long, both)
@@ -231,3 +224,53 @@ lowered_kept volume all b n now mid c kept sent nodes client lines geometry pass
     quiet_kept volume all b n now mid c c.dropped c.lines kept (ap posts_of sent)
     (subst (λ (l : List Sent). AreMarked (reverse c.trace) c.dropped mid.lowest (marks_of l)) (sym sent)
     (passed_on (reverse c.trace) c.dropped now.lowest (marks_of now.sent.items) kept.marked mid.lowest passed)) nodes client (lines ∙ kept.lines) geometry
+
+-- ---- the next message that waits
+
+module _ (volume : Volume) (all : List Event) (b n : ℕ) (now mid : World) (c : Course) (kept : IsKept volume all b n now c) (sent : mid.sent.items ≡ now.sent.items) (nodes : mid.nodes.items ≡ now.nodes.items) (client : mid.client ≡ now.client)
+    (lines : mid.lines.items ≡ now.lines.items) (geometry : mid.geometry ≡ now.geometry) (passed : (k : ℕ) → now.lowest ≤ k → k < mid.lowest → slice_get (marks_of now.sent.items) k ≡ Some true) where
+  marked : AreMarked (reverse c.trace) c.dropped mid.lowest (marks_of now.sent.items)
+  marked = passed_on (reverse c.trace) c.dropped now.lowest (marks_of now.sent.items) kept.marked mid.lowest passed
+
+  mid_kept : IsKept volume all b n mid c
+  mid_kept = lowered_kept volume all b n now mid c kept sent nodes client lines geometry passed
+
+  count : sent_by (reverse c.trace) ≡ length (marks_of now.sent.items)
+  count = kept.count ∙ sym (length-map now.sent.items mark_of)
+
+  same : IsFront (posts_of now.sent.items) (posts_of mid.sent.items)
+  same = same_front (posts_of now.sent.items) (posts_of mid.sent.items) (ap posts_of sent)
+
+  -- it is handed over
+  pub next_delivered : (later : World) (k : ℕ) → k ≡ mid.lowest + 1 → mid.lowest < length now.sent.items → slice_get (marks_of now.sent.items) mid.lowest ≡ Some false → StepsAt mid.lowest mid later
+      → HasDelivered volume all b n k now later c
+  next_delivered later k is inside waits steps =
+      let i : ℕ = mid.lowest in
+      let long = length-map mid.sent.items posted in
+      let alike = ap length sent in
+      let at = some_at (posts_of mid.sent.items) i (omega (arith, inside, long, alike)) in
+      let m : Posted = at.0 in
+      let one : HasStepped volume all b n m.to (handed.Deliver (i + 1)) mid later c = steps volume all b n c m mid_kept at.1 in
+      let lowest : next_waiting (reverse c.trace) c.dropped ≡ Some (i + 1) =
+      next_is (reverse c.trace) c.dropped i (marks_of now.sent.items) marked count (let marks = length-map now.sent.items mark_of in omega (arith, inside, marks)) waits in
+      subst (λ (j : ℕ). HasDelivered volume all b n j now later c) (sym is) (record {
+        lowest = lowest;
+        message = m;
+        known = λ posts front. posted_index (posts_of mid.sent.items) posts i m (subst (λ (l : List Posted). IsFront l posts) (ap posts_of (sym sent)) front) at.1;
+        stepped = record {
+          step = one.step;
+          said = one.said;
+          more = front_along (posts_of now.sent.items) (posts_of mid.sent.items) (posts_of later.sent.items) same one.more;
+          number = one.number;
+          is_step = one.is_step;
+          kept = one.kept;
+        };
+      })
+
+  -- there is none
+  pub none_left : length now.sent.items ≤ mid.lowest → HasNoneLeft volume all b n now mid c
+  none_left far = record {
+    none = next_none (reverse c.trace) c.dropped mid.lowest (marks_of now.sent.items) marked count (let marks = length-map now.sent.items mark_of in omega (arith, far, marks));
+    more = same;
+    kept = mid_kept;
+  }

@@ -1,5 +1,5 @@
 -- A world goes on as its course tells.
-use Rattle.std.specs.Prelude.{◌≡◌, ℕ, ◌+◌, ◌^◌, ◌<◌, ◌≤◌, List, [], ◌∷◌, ◌++◌, length, slice_get, reverse, Some}
+use Rattle.std.specs.Prelude.{◌≡◌, ℕ, ◌+◌, ◌^◌, ◌<◌, ◌≤◌, List, [], ◌∷◌, ◌++◌, length, slice_get, reverse, Option, Some, None}
 use Rattle.std.specs.List.{AllByRecursion}
 use Rattle.salus_types.specs.Volume.{Shape, IsVolume, nodes}
 use Rattle.salus_types.specs.declared.names.Sender.{Sender}
@@ -15,18 +15,24 @@ use Rattle.salus_model.specs.declared.trace.Handed.{Handed}
 use Rattle.salus_model.specs.declared.trace.Handed.TheVariants as handed
 use Rattle.salus_model.specs.declared.trace.TraceStep.{TraceStep}
 use Rattle.salus_model.specs.Judge.{event_at}
-use Rattle.salus_model.specs.Following.{Posted, posts_of, IsStep}
+use Rattle.salus_model.specs.Following.{Posted, posts_of, posted_at, next_waiting, IsStep}
 use Rattle.run_rules.specs.Calm.{Calm, is_harmed}
 use Rattle.run_course.specs.Course.{Course, IsEvent, Goes, no_course, sent_so_far}
 use Rattle.law_ranged.proofs.Bounded.{ClientFits}
 use Rattle.client_node.specs.declared.node.ClientNode.{ClientNode}
 use Rattle.client_node.specs.Standing.{IsClient, shape_of, newest_of}
 use Rattle.mem_node.specs.declared.node.MemNode.{MemNode}
+use Rattle.mem_node.specs.declared.outcome.Outcome.{Outcome}
+use Rattle.mem_node.specs.Fitting.{IsCrashed, IsStopping, FailsAt}
+use Rattle.unanimous_certificate.specs.Kept.{node_place}
+use Rattle.run_rules.specs.Knowing.{input_of_post}
+use Rattle.salus_types.specs.declared.names.NodeName.{NodeName}
+use Rattle.salus_types.specs.declared.names.Sender.TheVariants as sender
 use Rattle.run_steps.specs.Steps.{IsFront, known_at, OfClient, AreMade, with_step}
 use Rattle.run_steps.specs.Waiting.{AreMarked}
 use Rattle.run_steps.specs.Settling.{Settled}
 use Rattle.salus_world.specs.declared.world.World.{World}
-use Rattle.salus_world.specs.Places.{FitAll, SureAll}
+use Rattle.salus_world.specs.Places.{FitAll, SureAll, ChangesAt}
 use Rattle.salus_world.specs.Growing.{marks_of}
 
 -- By all messages of a run: the steps are made by the rules, and each party is as they tell. The client may be asked at event b.
@@ -67,11 +73,39 @@ pub record HasStepped (volume : Volume) (all : List Event) (b n : ℕ) (party : 
   pub is_step : (posts : List Posted) → IsFront (posts_of now.sent.items) posts → IsStep posts (reverse c.trace) n party what step
   pub kept : IsKept volume all b n now (with_step c step said)
 
+-- the node of that name is another one, and how it became so
+abbrev pub AtNode : NodeName → (MemNode → MemNode → Type 0) → World → World → Type 0
+AtNode name How was now = ChangesAt (node_place was.geometry name) was.nodes.items now.nodes.items How
+
+-- it has handled the message while its disk stopped
+abbrev pub StopsOn : ℕ → ℕ → ℕ → Posted → MemNode → MemNode → Type 0
+StopsOn calls keep fill m was is = (outcome : Outcome) × IsStopping calls keep fill (input_of_post m) outcome was is
+
+-- what the event asks of a disk is done to the disk of its node, with its numbers
+abbrev pub IsExact : Event → World → World → Type 0
+IsExact (event.Crash name keep fill) was now = AtNode name (IsCrashed keep fill) was now
+IsExact (event.Fail name call) was now = AtNode name (FailsAt call) was now
+IsExact (event.Stop k calls keep fill) was now =
+    (m : Posted) (name : NodeName) → posted_at (posts_of was.sent.items) k ≡ Some m → m.to ≡ sender.Node name → AtNode name (StopsOn calls keep fill m) was now
+IsExact (event.Write batch) was now = Unit {0}
+IsExact (event.Read block) was now = Unit {0}
+IsExact event.Barrier was now = Unit {0}
+IsExact (event.Deliver k) was now = Unit {0}
+IsExact (event.Settle count) was now = Unit {0}
+IsExact (event.Drop k) was now = Unit {0}
+IsExact (event.Lie from to bytes) was now = Unit {0}
+IsExact (event.Replace name) was now = Unit {0}
+IsExact event.ClientCrash was now = Unit {0}
+IsExact (event.Restart session) was now = Unit {0}
+IsExact (event.Reassign session region) was now = Unit {0}
+IsExact (event.Tick party) was now = Unit {0}
+
 -- Event n is done, and the next one may be.
 pub record HasDone (volume : Volume) (all : List Event) (n : ℕ) (e : Event) (was now : World) (c : Course) : Type 0 where
   pub course : Course
   pub more : IsFront (posts_of was.sent.items) (posts_of now.sent.items)
   pub event : (posts : List Posted) → IsFront (posts_of now.sent.items) posts → IsEvent posts n e c course
+  pub exact : IsExact e was now
   pub kept : IsKept volume all (n + 1) (n + 1) now course
 
 -- So many deliveries of event n are done.
@@ -81,10 +115,29 @@ pub record HasSettled (volume : Volume) (all : List Event) (n done : ℕ) (was n
   pub settled : (posts : List Posted) → IsFront (posts_of now.sent.items) posts → Settled posts n done c course
   pub kept : IsKept volume all n n now course
 
+-- In a step of event n the message of that number is handed over, the lowest one that waits.
+pub record HasDelivered (volume : Volume) (all : List Event) (b n k : ℕ) (was now : World) (c : Course) : Type 0 where
+  pub lowest : next_waiting (reverse c.trace) c.dropped ≡ Some k
+  pub message : Posted
+  pub known : (posts : List Posted) → IsFront (posts_of was.sent.items) posts → posted_at posts k ≡ Some message
+  pub stepped : HasStepped volume all b n message.to (handed.Deliver k) was now c
+
+-- No message waits, and nothing is handed over.
+pub record HasNoneLeft (volume : Volume) (all : List Event) (b n : ℕ) (was now : World) (c : Course) : Type 0 where
+  pub none : next_waiting (reverse c.trace) c.dropped ≡ None
+  pub more : IsFront (posts_of was.sent.items) (posts_of now.sent.items)
+  pub kept : IsKept volume all b n now c
+
+-- From one world to another by these events, world by world; the first of them has number n.
+unfoldable pub Went : Volume → List Event → ℕ → List Event → World → World → Course → Course → Type 0
+Went volume all n [] was now first last = (was ≡ now) × (first ≡ last)
+Went volume all n (e ∷ events) was now first last = (mid : World) × (done : HasDone volume all n e was mid first) × Went volume all (n + 1) events mid now done.course last
+
 -- These events are done, of which the first has number 1.
-pub record HasRun (volume : Volume) (all events : List Event) (world : World) : Type 0 where
+pub record HasRun (volume : Volume) (all events : List Event) (start world : World) : Type 0 where
   pub course : Course
   pub goes : (posts : List Posted) → IsFront (posts_of world.sent.items) posts → Goes posts 1 events no_course course
+  pub went : Went volume all 1 events start world no_course course
   pub kept : IsKept volume all (length events + 1) (length events + 1) world course
 
 -- whatever course tells how the world came about, it goes on by a step
@@ -97,6 +150,11 @@ abbrev pub StepsAt : ℕ → World → World → Type 0
 StepsAt index was now =
     (volume : Volume) (all : List Event) (b n : ℕ) (c : Course) (m : Posted) → IsKept volume all b n was c → slice_get (posts_of was.sent.items) index ≡ Some m
     → HasStepped volume all b n m.to (handed.Deliver (index + 1)) was now c
+
+-- or by the delivery of the lowest message that waits, if one does
+abbrev pub DeliversNext : Option ℕ → World → World → Type 0
+DeliversNext (Some k) was now = (volume : Volume) (all : List Event) (b n : ℕ) (c : Course) → IsKept volume all b n was c → HasDelivered volume all b n k was now c
+DeliversNext None was now = (volume : Volume) (all : List Event) (b n : ℕ) (c : Course) → IsKept volume all b n was c → HasNoneLeft volume all b n was now c
 
 -- or by an event
 abbrev pub Does : ℕ → Event → World → World → Type 0

@@ -10,7 +10,7 @@ use Rattle.run_rules.specs.Knowing.{KnownNode, fresh}
 use Rattle.run_rules.specs.Running.{formatted}
 use Rattle.mem_node.specs.declared.node.MemNode.{MemNode}
 use Rattle.mem_node.specs.declared.outcome.Outcome.{Outcome}
-use Rattle.mem_node.specs.Fitting.{Fits, IsUnharmed, IsAnswered, IsReloaded, IsStopped}
+use Rattle.mem_node.specs.Fitting.{Fits, IsUnharmed, IsAnswered, IsReloaded, IsStopped, IsCrashed, IsStopping, FailsAt}
 
 -- the name of the node at a place
 abbrev pub name_at : Shape → ℕ → NodeName
@@ -46,15 +46,17 @@ pub record HasAnswered (input : Input) (outcome : Outcome) (was is : MemNode) : 
   pub answered : (shape : Shape) (name : NodeName) (known : KnownNode) → Fits shape name known was → IsAnswered shape name known input outcome is
   pub sure : IsUnharmed was → IsUnharmed is × (outcome.failed ≡ false)
 
--- it has handled an input as far as its disk went, and was loaded then
-pub record HasStopped (input : Input) (outcome : Outcome) (was is : MemNode) : Type 0 where
+-- it has handled an input as far as its disk went, which stopped after so many calls, and was loaded then
+pub record HasStopped (calls keep fill : ℕ) (input : Input) (outcome : Outcome) (was is : MemNode) : Type 0 where
   pub stopped : (shape : Shape) (name : NodeName) (known : KnownNode) → Fits shape name known was → IsStopped shape name known input outcome is
   pub unharmed : IsUnharmed is
+  pub exact : IsStopping calls keep fill input outcome was is
 
 -- it has crashed, and was loaded then
-pub record HasCrashed (was is : MemNode) : Type 0 where
+pub record HasCrashed (keep fill : ℕ) (was is : MemNode) : Type 0 where
   pub reloaded : (shape : Shape) (name : NodeName) (known : KnownNode) → Fits shape name known was → IsReloaded shape name known is
   pub unharmed : IsUnharmed is
+  pub exact : IsCrashed keep fill was is
 
 -- it has started anew
 pub record IsRenewed (was is : MemNode) : Type 0 where
@@ -62,5 +64,6 @@ pub record IsRenewed (was is : MemNode) : Type 0 where
   pub unharmed : IsUnharmed is
 
 -- a call of its disk is named to fail
-abbrev pub IsNamed : MemNode → MemNode → Type 0
-IsNamed was is = (shape : Shape) (name : NodeName) (known : KnownNode) → Fits shape name known was → Fits shape name known is
+pub record IsNamed (call : ℕ) (was is : MemNode) : Type 0 where
+  pub same : (shape : Shape) (name : NodeName) (known : KnownNode) → Fits shape name known was → Fits shape name known is
+  pub exact : FailsAt call was is

@@ -1,9 +1,7 @@
 //! The events of a schedule.
-ghost use Rattle.std.specs.Prelude.{◌≡◌, ◌≤◌, ◌+◌, ◌<◌, ◌^◌, ◌++◌, ◌∷◌, [], ℕ, false, None, length, IfSome, OnOk};
+ghost use Rattle.std.specs.Prelude.{◌≡◌, ◌+◌, ◌<◌, ◌^◌, ◌++◌, ◌∷◌, [], ℕ, false, None, length, IfOk, IfSome, OnOk};
 ghost use Rattle.schedule_text.specs.declared.schedule.Event.TheVariants as event;
-ghost use Rattle.schedule_text.specs.Grammar.{session_of};
 ghost use Rattle.schedule_text.specs.Limits.{IsPartyOfVolume, IsEventWithin};
-ghost use Rattle.salus_model.specs.declared.trace.Handed.TheVariants as handed;
 ghost use Rattle.salus_model.specs.Following.{Posted, posts_of, is_sent};
 ghost use Rattle.client_node.specs.Standing.{newest_of};
 
@@ -27,7 +25,7 @@ fn index_of(sent: &Vec<Sent>, message: u64) -> Option<usize>
 }
 
 impl World {
-    ghost use Rattle.salus_world.specs.Kept.{IsOngoing, Steps, StepsAt, Does};
+    ghost use Rattle.salus_world.specs.Kept.{IsOngoing, StepsAt, DeliversNext, Does};
 
     /// The event is skipped.
     fn skip(&mut self, event: u64, message: u64) -> Result<(), NoMemory>
@@ -182,6 +180,20 @@ impl World {
         }
     }
 
+    /// Hands over the lowest message that is neither delivered nor dropped, and gives its number; nothing where there is none.
+    pub fn deliver_next(&mut self) -> Result<Option<u64>, NoMemory>
+        requires kept { IsOngoing self.old }
+        ensures { IfOk result (λ next. DeliversNext next self.old self.new) }
+    {
+        let index = pass_marked(&self.sent, self.lowest);
+        self.lowest = index;
+        if index >= self.sent.len() {
+            return Ok(None);
+        }
+        self.deliver_at(index)?;
+        Ok(Some(index as u64 + 1))
+    }
+
     /// At most so many times hands over the lowest message that is neither delivered nor dropped.
     pub fn settle(&mut self, count: u64) -> Result<(), NoMemory>
         requires kept { IsOngoing self.old }
@@ -189,36 +201,33 @@ impl World {
     {
         'deliveries: for done in 0..count {
             prove!(done < count);
-            let index = pass_marked(&self.sent, self.lowest);
-            self.lowest = index;
-            if index >= self.sent.len() {
-                return Ok(());
+            match self.deliver_next()? {
+                Some(_) => {}
+                None => return Ok(()),
             }
-            self.deliver_at(index)?;
         }
         Ok(())
     }
 
-    /// The event of that number.
-    pub fn event(&mut self, number: u64, event: Event) -> Result<(), NoMemory>
+    /// The event of that number, which is above those of all requests before.
+    pub fn step(&mut self, number: u64, event: Event) -> Result<(), NoMemory>
         requires kept { IsOngoing self.old }
         requires newest { newest_of self.old.client < number }
         requires low { number < 2 ^ 32 }
         requires within { IsEventWithin self.old.geometry event }
-        requires served { session_of event ≡ None }
         ensures { OnOk result (Does number event self.old self.new) }
     {
         match event {
             Event::Write { batch } => {
-                self.ask(number, Request::Write { batch })?;
+                self.request(number, Request::Write { batch })?;
                 Ok(())
             }
             Event::Read { block } => {
-                self.ask(number, Request::Read { block })?;
+                self.request(number, Request::Read { block })?;
                 Ok(())
             }
             Event::Barrier => {
-                self.ask(number, Request::Barrier)?;
+                self.request(number, Request::Barrier)?;
                 Ok(())
             }
             Event::Deliver { message } => {
@@ -266,9 +275,14 @@ impl World {
                 self.tick(party)?;
                 Ok(())
             }
-            // `served` rules these out.
-            Event::Restart { .. } => Ok(()),
-            Event::Reassign { .. } => Ok(()),
+            Event::Restart { session } => {
+                self.request(number, Request::Restart { session })?;
+                Ok(())
+            }
+            Event::Reassign { session, region } => {
+                self.request(number, Request::Reassign { session, region })?;
+                Ok(())
+            }
         }
     }
 }

@@ -4,6 +4,7 @@ ghost use Rattle.salus_types.specs.declared.names.Sender.TheVariants.{Node as Is
 ghost use Rattle.schedule_text.specs.declared.schedule.Event.TheVariants as event;
 ghost use Rattle.schedule_text.specs.Limits.{IsOfVolume};
 ghost use Rattle.salus_model.specs.declared.trace.Handed.TheVariants as handed;
+ghost use Rattle.salus_model.specs.Following.{Posted, posts_of};
 
 use crate::mail::{mark_delivered, message_at, post};
 use crate::places::{crash_at, fail_at, hand_at, place_of, replace_at, stop_at, tick_at};
@@ -11,7 +12,7 @@ use crate::world::World;
 use salus_types::{NoMemory, NodeName, Outs, Sender};
 
 impl World {
-    ghost use Rattle.salus_world.specs.Kept.{IsOngoing, Steps, Does};
+    ghost use Rattle.salus_world.specs.Kept.{IsOngoing, Steps, Does, AtNode, StopsOn};
 
     /// Hands bytes to a node as a message of that sender.
     pub fn lie_to_node(
@@ -89,7 +90,8 @@ impl World {
         requires kept { IsOngoing self.old }
         requires inside { index < length self.old.sent.items }
         requires of { IsOfVolume self.old.geometry name }
-        ensures { OnOk result (Steps (IsNode name) (handed.Stop (index + 1)) self.old self.new) }
+        ensures steps { OnOk result (Steps (IsNode name) (handed.Stop (index + 1)) self.old self.new) }
+        ensures exact { OnOk result ((m : Posted) → slice_get (posts_of self.old.sent.items) index ≡ Some m → AtNode name (StopsOn calls keep fill m) self.old self.new) }
     {
         let place = place_of(&self.geometry, name);
         let message = message_at(&self.sent, index);

@@ -7,8 +7,11 @@ mod events;
 mod handing;
 mod mail;
 mod places;
+mod ran;
 mod run;
 mod telling;
 mod world;
 
-pub use run::{Ran, run_schedule};
+pub use ran::Ran;
+pub use run::run_schedule;
+pub use world::World;

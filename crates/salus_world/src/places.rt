@@ -72,7 +72,7 @@ pub fn stop_at(
     fill: u8,
 ) -> Result<Outcome, NoMemory>
     requires { place < length nodes.old.items }
-    ensures { IfOk result (λ outcome. ChangesAt place nodes.old.items nodes.new.items (HasStopped (Receives from bytes.now) outcome)) }
+    ensures { IfOk result (λ outcome. ChangesAt place nodes.old.items nodes.new.items (HasStopped calls keep fill (Receives from bytes.now) outcome)) }
 {
     let outcome = nodes[place].stop(from, bytes, calls, keep, fill)?;
     Ok(outcome)
@@ -81,7 +81,7 @@ pub fn stop_at(
 /// Lets it crash, and loads it.
 pub fn crash_at(nodes: &mut Vec<MemNode>, place: usize, keep: u64, fill: u8) -> Result<(), NoMemory>
     requires { place < length nodes.old.items }
-    ensures { OnOk result (ChangesAt place nodes.old.items nodes.new.items HasCrashed) }
+    ensures { OnOk result (ChangesAt place nodes.old.items nodes.new.items (HasCrashed keep fill)) }
 {
     nodes[place].crash(keep, fill)?;
     Ok(())
@@ -100,7 +100,7 @@ pub fn replace_at(nodes: &mut Vec<MemNode>, place: usize) -> Result<(), NoMemory
 pub fn fail_at(nodes: &mut Vec<MemNode>, place: usize, call: u64) -> Result<(), NoMemory>
     requires inside { place < length nodes.old.items }
     requires call { 1 ≤ call }
-    ensures { OnOk result (ChangesAt place nodes.old.items nodes.new.items IsNamed) }
+    ensures { OnOk result (ChangesAt place nodes.old.items nodes.new.items (IsNamed call)) }
 {
     nodes[place].fail(call)?;
     Ok(())

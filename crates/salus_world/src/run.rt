@@ -1,38 +1,27 @@
-ghost use Rattle.std.specs.Prelude.{◌≡◌, ◌≤◌, [], length, IfOk, OnOk};
+ghost use Rattle.std.specs.Prelude.{◌≤◌, length, IfOk, OnOk};
 ghost use Rattle.std.specs.List.{AllByRecursion};
 ghost use Rattle.schedule_text.specs.declared.schedule.Volume.{Volume as AnyVolume};
-ghost use Rattle.schedule_text.specs.Grammar.{sessions_of};
 ghost use Rattle.schedule_text.specs.Limits.{IsEventWithin, IsWithinLimits};
-ghost use Rattle.salus_model.specs.Following.{posts_of};
 ghost use Rattle.run_course.specs.Course.{no_course};
 ghost use Rattle.salus_world.specs.Kept.{IsKept, HasRun};
-ghost use Rattle.salus_world.specs.Runs.{Runs};
+ghost use Rattle.salus_world.specs.Runs.{Ends};
 
+use crate::ran::Ran;
 use crate::world::World;
-use printed_lines::Lines;
-use salus_model::Messages;
 use salus_types::{Items, NoMemory};
 use schedule_text::{Event, Schedule};
 use std::alloc::Global;
-
-/// What a run gives: the lines, in order, and all messages, in the order sent.
-#[derive(Drop)]
-pub struct Ran {
-    pub lines: Lines,
-    pub messages: Messages,
-}
 
 /// Makes the steps of all events, of which the first has number 1.
 fn run_events(world: &mut World, events: Vec<Event>) -> Result<(), NoMemory>
     requires kept { (volume : AnyVolume) × IsKept volume events.items 1 1 world.old no_course }
     requires within { AllByRecursion (IsEventWithin world.old.geometry) events.items }
     requires few { length events.items ≤ 65536 }
-    requires served { sessions_of events.items ≡ [] }
-    ensures { OnOk result ((volume : AnyVolume) → IsKept volume events.items 1 1 world.old no_course → HasRun volume events.items events.items world.new) }
+    ensures { OnOk result ((volume : AnyVolume) → IsKept volume events.items 1 1 world.old no_course → HasRun volume events.items events.items world.old world.new) }
 {
     let mut number = 1;
     'events: for event in events {
-        world.event(number, event)?;
+        world.step(number, event)?;
         number += 1;
     }
     Ok(())
@@ -42,16 +31,23 @@ fn run_events(world: &mut World, events: Vec<Event>) -> Result<(), NoMemory>
 ///
 /// It ends early only for want of memory: no load of a node is refused for another reason.
 pub fn run_schedule(alloc: Global, schedule: Schedule) -> Result<Ran, NoMemory>
-    requires limits { IsWithinLimits schedule }
-    requires served { sessions_of schedule.events ≡ [] }
-    ensures runs { IfOk result (λ ran. Runs schedule.volume schedule.events ran.lines (posts_of ran.messages)) }
+    requires { IsWithinLimits schedule }
+    ensures { IfOk result (Ends schedule.volume schedule.events) }
 {
     let Schedule { volume, events } = schedule;
-    let mut world = World::format(alloc, &volume)?;
+    let mut world = World::new(alloc, &volume)?;
     run_events(&mut world, events.into_vec())?;
-    let World { sent, lines, .. } = world;
+    let World {
+        nodes,
+        client,
+        sent,
+        lines,
+        ..
+    } = world;
     Ok(Ran {
         lines: Items::from_vec(lines),
         messages: Items::from_vec(sent),
+        nodes,
+        client,
     })
 }

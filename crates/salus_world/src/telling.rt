@@ -2,9 +2,9 @@
 ghost use Rattle.std.specs.Prelude.{◌≡◌, ◌++◌, ◌+◌, ◌<◌, ◌^◌, ℕ, Some, slice_get, length, OnOk};
 ghost use Rattle.salus_types.specs.declared.names.Sender.TheVariants.{Client as IsClient};
 ghost use Rattle.schedule_text.specs.declared.schedule.Event.TheVariants as event;
-ghost use Rattle.schedule_text.specs.Limits.{IsPartyOfVolume};
+ghost use Rattle.schedule_text.specs.Limits.{IsPartyOfVolume, IsEventWithin};
 ghost use Rattle.salus_model.specs.declared.trace.Handed.TheVariants as handed;
-ghost use Rattle.client_node.specs.Standing.{IsServed, newest_of};
+ghost use Rattle.client_node.specs.Standing.{newest_of};
 ghost use Rattle.salus_world.specs.Growing.{new_messages};
 
 use crate::mail::{mark_delivered, message_at, post};
@@ -30,12 +30,12 @@ impl World {
         Ok(())
     }
 
-    /// A request, which is moved into the client.
-    pub fn ask(&mut self, event: u64, request: Request) -> Result<(), NoMemory>
+    /// A request of the event of that number, which is above those of all requests before. It is moved into the client.
+    pub fn request(&mut self, event: u64, request: Request) -> Result<(), NoMemory>
         requires kept { IsOngoing self.old }
         requires newest { newest_of self.old.client < event }
         requires low { event < 2 ^ 32 }
-        requires served { IsServed self.old.geometry request }
+        requires within { IsEventWithin self.old.geometry (event_of request) }
         ensures { OnOk result (Does event (event_of request) self.old self.new) }
     {
         let step = self.client.request(event, request)?;

@@ -1,30 +1,32 @@
-ghost use Rattle.std.specs.Prelude.{◌≡◌, ◌≤◌, ◌<◌, ◌+◌, List, length, IfOk};
+ghost use Rattle.std.specs.Prelude.{◌≡◌, ◌≤◌, List, Some, length, slice_get, IfOk};
 ghost use Rattle.salus_types.specs.Volume.{IsVolume, nodes};
+ghost use Rattle.schedule_text.specs.Limits.{IsOfVolume};
+ghost use Rattle.unanimous_certificate.specs.Kept.{node_place};
 ghost use Rattle.schedule_text.specs.declared.schedule.Event.{Event as AnyEvent};
 ghost use Rattle.run_course.specs.Course.{no_course};
 ghost use Rattle.salus_world.specs.Places.{AreFormatted};
 
-use crate::places::name_at;
+use crate::places::{name_at, place_of};
 use client_node::ClientNode;
 use mem_node::MemNode;
 use printed_lines::Line;
 use salus_hash::HmacKey;
 use salus_model::Sent;
-use salus_types::{Geometry, NoMemory};
+use salus_types::{Geometry, NoMemory, NodeName};
 use schedule_text::Volume;
 use std::alloc::Global;
 
 /// The parties, every message sent, and the lines so far. After an error it is used no more.
 #[derive(Drop)]
 pub struct World {
-    pub geometry: Geometry,
-    pub client: ClientNode,
-    /// In order of region and replica.
-    pub nodes: Vec<MemNode>,
-    pub sent: Vec<Sent>,
-    /// Of the first so many messages each is delivered or dropped.
-    pub lowest: usize,
-    pub lines: Vec<Line>,
+    pub(crate) geometry: Geometry,
+    pub(crate) client: ClientNode,
+    // In order of region and replica.
+    pub(crate) nodes: Vec<MemNode>,
+    pub(crate) sent: Vec<Sent>,
+    // Of the first so many messages each is delivered or dropped.
+    pub(crate) lowest: usize,
+    pub(crate) lines: Vec<Line>,
 }
 
 /// A formatted node for each replica of each region.
@@ -42,10 +44,10 @@ fn format_nodes(alloc: Global, geometry: Geometry, key: &HmacKey) -> Result<Vec<
 }
 
 impl World {
-    ghost use Rattle.salus_world.specs.Kept.{IsKept};
+    ghost use Rattle.salus_world.specs.Kept.{IsKept, IsOngoing};
 
     /// A volume that was never written, and no message.
-    pub fn format(alloc: Global, volume: &Volume) -> Result<World, NoMemory>
+    pub fn new(alloc: Global, volume: &Volume) -> Result<World, NoMemory>
         requires limits { IsVolume volume.now.geometry }
         requires key { length volume.now.key ≤ 64 }
         ensures { IfOk result (λ world. (all : List AnyEvent) → IsKept volume.now all 1 1 world no_course) }
@@ -62,5 +64,28 @@ impl World {
             lowest: 0,
             lines: Vec::new(alloc),
         })
+    }
+
+    /// All messages, in the order sent. They are numbered from 1.
+    pub fn sent(&self) -> &[Sent]
+        ensures { result.now ≡ self.now.sent.items }
+    {
+        self.sent.as_slice()
+    }
+
+    /// The lines so far, in order.
+    pub fn lines(&self) -> &[Line]
+        ensures { result.now ≡ self.now.lines.items }
+    {
+        self.lines.as_slice()
+    }
+
+    /// The node of that name.
+    pub fn node(&self, name: NodeName) -> &MemNode
+        requires kept { IsOngoing self.now }
+        requires of { IsOfVolume self.now.geometry name }
+        ensures { slice_get self.now.nodes.items (node_place self.now.geometry name) ≡ Some result.now }
+    {
+        &self.nodes[place_of(&self.geometry, name)]
     }
 }

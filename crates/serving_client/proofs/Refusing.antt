@@ -6,7 +6,7 @@ use Rattle.std.specs.Option.{option_or, option_map}
 use Rattle.std.proofs.lemmas.Bool.{true≢false}
 use Rattle.std.proofs.lemmas.List.Elements.{All-from_recursion}
 use Rattle.list_lemmas.proofs.Tests.{by_bool}
-use Rattle.salus_types.specs.Volume.{Shape, blocks}
+use Rattle.salus_types.specs.Volume.{Shape, blocks, regions}
 use Rattle.salus_types.specs.declared.records.Write.{Write}
 use Rattle.printed_lines.specs.declared.line.RequestRefusal.{RequestRefusal}
 use Rattle.printed_lines.specs.declared.line.RequestRefusal.TheVariants as refusal
@@ -18,7 +18,7 @@ use Rattle.client_rules.specs.State.{Serving}
 use Rattle.client_rules.specs.Serving.{refusal_here}
 use Rattle.client_window.specs.Window.{IsWriteOf}
 use Rattle.serving_client.specs.declared.inside.Core.{Core}
-use Rattle.serving_client.specs.Kept.{IsSized}
+use Rattle.serving_client.specs.Kept.{IsSized, IsWithin}
 use Rattle.serving_client.specs.Keeping.{HasPlace}
 
 -- a client that has what refusals look at
@@ -91,3 +91,15 @@ none_refuses k (request.Reassign e g) sized none = absurd sized
 pub none_fits : (k : Core) (r : Request) (o : Option RequestRefusal) → o ≡ refusal_here k.pipeline.window.shape (looked_at k) r → IfNone o (IsSized k.pipeline.window.shape r → HasPlace k r)
 none_fits k r None is = λ sized. none_refuses k r sized (sym is)
 none_fits k r (Some cause) is = tt
+
+-- and a reassignment is of a region of the volume
+none_within : (k : Core) (r : Request) → refusal_here k.pipeline.window.shape (looked_at k) r ≡ None → IsWithin k.pipeline.window.shape r
+none_within k (request.Write batch) none = tt
+none_within k (request.Read b) none = tt
+none_within k request.Barrier none = tt
+none_within k (request.Restart e) none = tt
+none_within k (request.Reassign e g) none = (none_outside (regions k.pipeline.window.shape) (g ∷ []) (neither _ _ none).0).0
+
+pub none_is_within : (k : Core) (r : Request) (o : Option RequestRefusal) → o ≡ refusal_here k.pipeline.window.shape (looked_at k) r → IfNone o (IsWithin k.pipeline.window.shape r)
+none_is_within k r None is = none_within k r (sym is)
+none_is_within k r (Some cause) is = tt

@@ -32,6 +32,11 @@ IsSized shape request.Barrier = Unit {0}
 IsSized shape (request.Restart session) = Unit {0}
 IsSized shape (request.Reassign session region) = ⊥
 
+-- a reassignment is of a region of the volume
+abbrev pub IsWithin : Shape → Request → Type 0
+IsWithin shape (request.Reassign session region) = region < regions shape
+IsWithin shape other = Unit {0}
+
 -- a node of the volume
 pub record IsNodeOf (shape : Shape) (name : NodeName) : Type 0 where
   pub region : name.region < regions shape

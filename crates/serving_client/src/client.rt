@@ -1,4 +1,4 @@
-ghost use Rattle.std.specs.Prelude.{◌≡◌, ◌++◌, ◌+◌, ◌<◌, ◌≤◌, ◌^◌, ℕ, List, None, map, length, IfOk, OnOk};
+ghost use Rattle.std.specs.Prelude.{◌≡◌, ◌++◌, ◌+◌, ◌<◌, ◌≤◌, ◌^◌, ℕ, List, None, map, length, IfNone, IfOk, OnOk};
 ghost use Rattle.salus_types.specs.Volume.{blocks, regions};
 ghost use Rattle.schedule_text.specs.declared.schedule.Volume.{Volume};
 ghost use Rattle.posting.specs.Letters.{out_of_letter};
@@ -7,7 +7,7 @@ ghost use Rattle.client_rules.specs.State.{Serving};
 ghost use Rattle.client_rules.specs.Opening.{new_serving};
 ghost use Rattle.client_rules.specs.Serving.{answered_here, committed_here, refusal_here, requested_here, ticked_here};
 ghost use Rattle.client_premises.specs.Premises.{AnswerIsApart};
-ghost use Rattle.serving_client.specs.Kept.{shape_of, GoesOn, IsNodeOf, IsSized};
+ghost use Rattle.serving_client.specs.Kept.{shape_of, GoesOn, IsNodeOf, IsSized, IsWithin};
 ghost use Rattle.serving_client.specs.Standing.{IsTold, StandsFor};
 
 use crate::answers::{take_answer, take_claim};
@@ -102,6 +102,7 @@ impl ServingClient {
     pub fn submitted(&self) -> u64
         ensures number { result ≡ self.now.pipeline.window.last }
         ensures stands { (volume : Volume) (c : Serving) → StandsFor volume self.now c → result ≡ c.last }
+        ensures low { result ≤ 2 ^ 63 + self.now.newest }
     {
         self.core.pipeline.submitted()
     }
@@ -117,6 +118,7 @@ impl ServingClient {
     pub fn roots(&self, alloc: Global) -> Result<Digests, NoMemory>
         ensures length { IfOk result (λ roots. length roots ≡ regions (shape_of self.now)) }
         ensures stands { IfOk result (λ roots. (volume : Volume) (c : Serving) → StandsFor volume self.now c → roots ≡ roots_of (shape_of self.now) c.contents) }
+        ensures full { (volume : Volume) (c : Serving) → StandsFor volume self.now c → length c.contents ≡ blocks (shape_of self.now) }
     {
         self.core.pipeline.roots(alloc)
     }
@@ -125,12 +127,14 @@ impl ServingClient {
     pub fn into_key(self) -> HmacKey
         ensures { result ≡ self.pipeline.key }
     {
-        self.core.pipeline.into_key()
+        self.core.into_pipeline().into_key()
     }
 
-    /// Why the request is refused, by the first cause that applies.
+    /// Why the request is refused, by the first cause that applies. A reassignment that isn't refused is of a region of the
+    /// volume.
     pub fn refusal(&self, request: &Request) -> Option<RequestRefusal>
-        ensures { (volume : Volume) (c : Serving) → StandsFor volume self.now c → result ≡ refusal_here volume.geometry c request.now }
+        ensures told { (volume : Volume) (c : Serving) → StandsFor volume self.now c → result ≡ refusal_here volume.geometry c request.now }
+        ensures region { IfNone result (IsWithin (shape_of self.now) request.now) }
     {
         refusal_of(&self.core, request)
     }

@@ -1,4 +1,6 @@
-//! What a serving client keeps, while a call changes it.
+//! What a serving client keeps, while a call changes it: no block but those of parts that aren't acknowledged, of writes that
+//! wait, and of what is known for the write at the head.
+ghost use Rattle.std.specs.Prelude.{◌≡◌};
 ghost use Rattle.serving_client.specs.Keeping.{HasGivenUp};
 
 use client_pipeline::Pipeline;
@@ -20,6 +22,24 @@ pub struct Core {
     pub asked: Reads,
     /// The event of the newest request.
     pub newest: u64,
+}
+
+impl Core {
+    /// The batches that aren't acknowledged, taken out. It names every field: none can join them unseen that holds the volume's
+    /// blocks.
+    pub fn into_pipeline(self) -> Pipeline
+        ensures { result ≡ self.pipeline }
+    {
+        let Core {
+            pipeline,
+            trees: _trees,
+            line: _line,
+            reads: _reads,
+            asked: _asked,
+            newest: _,
+        } = self;
+        pipeline
+    }
 }
 
 /// After an error: no request waits any more.

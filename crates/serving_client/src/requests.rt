@@ -3,7 +3,7 @@ ghost use Rattle.std.specs.Prelude.{◌≡◌, ◌<◌, ◌^◌, IfNone, OnOk};
 ghost use Rattle.schedule_text.specs.declared.schedule.Volume.{Volume};
 ghost use Rattle.client_rules.specs.State.{Serving};
 ghost use Rattle.client_rules.specs.Serving.{joined, refusal_here, requested_here};
-ghost use Rattle.serving_client.specs.Kept.{IsSized};
+ghost use Rattle.serving_client.specs.Kept.{IsSized, IsWithin};
 ghost use Rattle.serving_client.specs.Keeping.{kept_of, HasPlace, IsKept, Survives};
 ghost use Rattle.serving_client.specs.Standing.{IsTold, StandsFor};
 
@@ -21,6 +21,7 @@ pub fn refusal_of(core: &Core, request: &Request) -> Option<RequestRefusal>
     requires { IsKept core.now }
     ensures told { (volume : Volume) (c : Serving) → StandsFor volume (kept_of core.now) c → result ≡ refusal_here volume.geometry c request.now }
     ensures room { IfNone result (IsSized core.now.pipeline.window.shape request.now → HasPlace core.now request.now) }
+    ensures region { IfNone result (IsWithin core.now.pipeline.window.shape request.now) }
 {
     let geometry = core.pipeline.geometry();
     let standing = Standing {

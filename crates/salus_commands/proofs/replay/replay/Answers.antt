@@ -9,9 +9,16 @@ returns c =
       trace = trace;
       told = r.course.told;
       run = of_run _ _ _ _ r (λ follows. record {
-        steps = λ none. c.runs_are_apart.ensures.steps _ _ _ trace c.requires.limits c.requires.served follows none r.client;
-        lines = λ none. c.runs_are_apart.ensures.lines _ _ _ trace r.course.told c.requires.limits c.requires.served follows none r.told;
-        due = c.runs_are_apart.ensures.due _ _ _ trace c.requires.limits c.requires.served follows;
-        legal = λ none unforged by. (c.runs_by_rules_are_legal.ensures _ _ _ trace c.requires.limits follows none unforged by).1;
+        steps = λ none unforged. c.every_run_is_apart.ensures.steps _ _ _ trace c.requires follows none unforged r.nodes r.client;
+        lines = λ none unforged. c.every_run_is_apart.ensures.lines _ _ _ trace r.course.told c.requires follows none unforged r.nodes r.client r.told;
+        due = λ none unforged. c.every_run_is_apart.ensures.due _ _ _ trace c.requires follows none unforged r.nodes r.client;
+        legal = λ none unforged by. (c.runs_by_rules_are_legal.ensures _ _ _ trace c.requires follows none unforged by).1;
+        kept = λ none unforged by guarded. (
+          c.nothing_acknowledged_is_lost.ensures.kept _ _ _ trace c.requires follows none unforged by guarded,
+          c.nothing_acknowledged_is_lost.ensures.found _ _ _ trace c.requires follows none unforged by guarded,
+        );
+        closed_steps = λ closed none. c.runs_are_apart.ensures.steps _ _ _ trace c.requires closed follows none r.client;
+        closed_lines = λ closed none. c.runs_are_apart.ensures.lines _ _ _ trace r.course.told c.requires closed follows none r.told;
+        closed_due = λ closed. c.runs_are_apart.ensures.due _ _ _ trace c.requires closed follows;
       });
     }

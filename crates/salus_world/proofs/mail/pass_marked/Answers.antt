@@ -1,4 +1,4 @@
-use Rattle.std.proofs.Common.{◌≡◌, ◌∙◌, true, sym}
+use Rattle.std.proofs.Common.{◌∙◌, true, sym}
 use Rattle.salus_world.specs.Growing.{marks_of}
 use Rattle.salus_world.proofs.Mailing.{passed_more, mark_at}
 use Rattle.salus_world.proofs.mail.pass_marked.Goals as goal

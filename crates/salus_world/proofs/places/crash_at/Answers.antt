@@ -8,5 +8,5 @@ returns c = record {
   is = c.crash.new.self;
   there = slice_get_read c.args.nodes.now.items _ c.args.place c.index_mut.result.now refl (omega (arith, c.requires)) c.index_mut.ensures.value;
   set = refl;
-  how = record { reloaded = c.in_ok-crash.ensures.reloaded; unharmed = c.in_ok-crash.ensures.unharmed };
+  how = record { reloaded = c.in_ok-crash.ensures.reloaded; unharmed = c.in_ok-crash.ensures.unharmed; exact = c.in_ok-crash.ensures.exact };
 }

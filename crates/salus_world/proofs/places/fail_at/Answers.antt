@@ -8,5 +8,5 @@ returns c = record {
   is = c.fail.new.self;
   there = slice_get_read c.args.nodes.now.items _ c.args.place c.index_mut.result.now refl (omega (arith, c.requires.inside)) c.index_mut.ensures.value;
   set = refl;
-  how = c.fail.ensures.fits;
+  how = record { same = c.fail.ensures.fits; exact = c.in_ok-fail.ensures.named };
 }

@@ -8,5 +8,5 @@ returns c = record {
   is = c.stop.new.self;
   there = slice_get_read c.args.nodes.now.items _ c.args.place c.index_mut.result.now refl (omega (arith, c.requires)) c.index_mut.ensures.value;
   set = refl;
-  how = record { stopped = c.in_ok-outcome.ensures.stopped; unharmed = c.in_ok-outcome.ensures.unharmed };
+  how = record { stopped = c.in_ok-outcome.ensures.stopped; unharmed = c.in_ok-outcome.ensures.unharmed; exact = c.in_ok-outcome.ensures.exact };
 }

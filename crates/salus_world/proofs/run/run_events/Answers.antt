@@ -1,7 +1,7 @@
 use Rattle.std.proofs.Common.{◌≡◌, ◌∙◌, ◌+◌, ◌++◌, ◌∷◌, length, List, refl, sym, ap, subst, arith}
 use Rattle.std.proofs.lemmas.List.{length_push}
 use Rattle.schedule_text.specs.declared.schedule.Event.{Event}
-use Rattle.salus_world.proofs.Finishing.{none_run, one_run, next_below, next_at, next_unasked}
+use Rattle.salus_world.proofs.Finishing.{none_run, one_run, next_below, next_at}
 use Rattle.salus_world.specs.Kept.{HasRun}
 use Rattle.salus_world.proofs.Mailing.{taken_front, all_given}
 use Rattle.salus_world.proofs.run.run_events.Goals as goal
@@ -18,8 +18,8 @@ events-preserved c =
     let low = next_below all done _ e split in
     record {
       numbered = ap (λ k. k + 1) c.events.invariant.numbered ∙ ap (λ k. k + 1) (sym (length_push done e));
-      run = λ volume kept. one_run volume all done e c.events.number c.events.world c.event.new.self (c.events.invariant.run volume kept) c.events.invariant.numbered (omega (arith, low, c.requires.few, c.events.invariant.numbered))
-          (next_at all done _ e split c.events.number c.events.invariant.numbered) c.in_ok-event.ensures;
+      run = λ volume kept. one_run volume all done e c.events.number c.args.world.now c.events.world c.step.new.self (c.events.invariant.run volume kept) c.events.invariant.numbered (omega (arith, low, c.requires.few, c.events.invariant.numbered))
+          (next_at all done _ e split c.events.number c.events.invariant.numbered) c.in_ok-step.ensures;
     }
 
 pub returns : goal.returns
@@ -27,12 +27,4 @@ returns c = λ volume kept.
     let none = (rw c.in-None.is at c.next.ensures.steps).0 in
     let left : length c.events.event-iterator.rest.items ≡ 0 = sym c.events.event-iterator.rest.ok.0 ∙ none in
     let given = all_given _ _ _ (taken_front _ _ _ c.events.yielded_by) left ∙ c.into_iter-event-iterator.ensures.into_iter_gives.0 in
-    subst (λ (l : List Event). HasRun volume c.args.events.items l c.events.world) given (c.events.invariant.run volume kept)
-
-pub event-requires-clause-served : goal.event-requires-clause-served
-event-requires-clause-served c =
-    let all = c.args.events.items in
-    let done = c.events.yielded in
-    let e = c.in-Some.event in
-    let split : all ≡ done ++ e ∷ _ = sym c.into_iter-event-iterator.ensures.into_iter_gives.0 ∙ (taken_front _ _ _ c.events.yielded_by ∙ ap (λ (l : List Event). done ++ l) c.in-Some.ensures.steps.0) in
-    next_unasked all done _ e split c.requires.served
+    subst (λ (l : List Event). HasRun volume c.args.events.items l c.args.world.now c.events.world) given (c.events.invariant.run volume kept)

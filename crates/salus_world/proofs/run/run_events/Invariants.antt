@@ -7,5 +7,5 @@ use Rattle.salus_world.proofs.run.run_events.Given as goal
 abbrev pub invariant-events : goal.invariant-events
 invariant-events l = record {
   numbered : l.number ≡ length l.yielded + 1;
-  run : (volume : Volume) → IsKept volume l.fn.events.items 1 1 l.fn.world no_course → HasRun volume l.fn.events.items l.yielded l.world;
+  run : (volume : Volume) → IsKept volume l.fn.events.items 1 1 l.fn.world no_course → HasRun volume l.fn.events.items l.yielded l.fn.world l.world;
 }

@@ -1,5 +1,4 @@
 use Rattle.std.proofs.Common.{◌≡◌, ◌∙◌, ◌+◌, sym, ap, subst}
-use Rattle.salus_types.specs.Volume.{Shape}
 use Rattle.salus_types.specs.declared.names.Sender.{Sender}
 use Rattle.salus_types.specs.declared.names.Sender.TheVariants as sender
 use Rattle.schedule_text.specs.Limits.{IsPartyOfVolume}

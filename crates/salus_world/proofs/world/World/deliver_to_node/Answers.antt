@@ -1,8 +1,8 @@
-use Rattle.std.proofs.Common.{◌≡◌, ◌∙◌, ◌+◌, List, ℕ, Option, Some, refl, sym, ap}
+use Rattle.std.proofs.Common.{◌∙◌, ◌+◌, List, ℕ, Some, refl, sym, ap}
 use Rattle.salus_types.specs.declared.names.Sender.TheVariants as sender
 use Rattle.salus_model.specs.declared.trace.Handed.TheVariants as handed
 use Rattle.salus_model.specs.Following.{posted}
-use Rattle.replica_rules.specs.Rules.{Receives, Ticks}
+use Rattle.replica_rules.specs.Rules.{Receives}
 use Rattle.salus_world.specs.declared.world.World.{World}
 use Rattle.salus_world.proofs.Acting.{Posts, answered_kept, marks_set, input_at}
 use Rattle.salus_world.proofs.NodeSteps.{posted_sent}

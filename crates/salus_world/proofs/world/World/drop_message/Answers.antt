@@ -1,4 +1,4 @@
-use Rattle.std.proofs.Common.{◌≡◌, false, ◌∙◌, refl, not, if◌then◌else◌, ◌∷◌, Bool, ap}
+use Rattle.std.proofs.Common.{refl, not, if◌then◌else◌, ◌∷◌, Bool, ap}
 use Rattle.schedule_text.specs.declared.schedule.Event.TheVariants as event
 use Rattle.salus_world.proofs.Acting.{drop_done, unsent}
 use Rattle.salus_world.proofs.Doing.{skipped_done}
@@ -14,4 +14,4 @@ returns-in_ok-skip-in-None c = λ volume all course low at kept.
     let none = unsent volume all c.args.number c.args.self.now course kept c.args.message (c.index_of.ensures.none c.in-None.is) in
     skipped_done volume all c.args.number (event.Drop c.args.message) c.args.self.now c.skip.new.self course low kept
     (λ posts front. ap not none) (ap (λ (b : Bool). if b then c.args.message ∷ course.dropped else course.dropped) none)
-    (ap (λ v. v.items) c.skip.ensures.messages.0) c.skip.ensures.messages.1 (ap (λ v. v.items) c.skip.ensures.parties.1) c.skip.ensures.parties.2 c.in_ok-skip-in-None.ensures.lines c.skip.ensures.parties.0
+    (ap (λ v. v.items) c.skip.ensures.messages.0) c.skip.ensures.messages.1 (ap (λ v. v.items) c.skip.ensures.parties.1) c.skip.ensures.parties.2 c.in_ok-skip-in-None.ensures.lines c.skip.ensures.parties.0 tt

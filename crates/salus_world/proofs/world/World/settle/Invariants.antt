@@ -1,4 +1,4 @@
-use Rattle.std.proofs.Common.{◌≡◌, ℕ, List}
+use Rattle.std.proofs.Common.{ℕ, List}
 use Rattle.schedule_text.specs.declared.schedule.Volume.{Volume}
 use Rattle.schedule_text.specs.declared.schedule.Event.{Event}
 use Rattle.run_course.specs.Course.{Course}

@@ -1,4 +1,4 @@
-use Rattle.std.proofs.Common.{◌≡◌, ◌∙◌, refl, sym, ap}
+use Rattle.std.proofs.Common.{◌∙◌, refl}
 use Rattle.salus_types.specs.declared.names.Sender.TheVariants as sender
 use Rattle.salus_world.specs.declared.world.World.{World}
 use Rattle.salus_world.proofs.Acting.{Posts, tick_kept}

@@ -1,11 +1,9 @@
-use Rattle.std.proofs.Common.{◌≡◌, ◌∙◌, ◌+◌, List, ℕ, Option, Some, refl, sym, ap}
+use Rattle.std.proofs.Common.{refl, sym}
 use Rattle.salus_types.specs.declared.names.Sender.TheVariants as sender
 use Rattle.salus_model.specs.declared.trace.Handed.TheVariants as handed
-use Rattle.salus_model.specs.Following.{posted}
-use Rattle.replica_rules.specs.Rules.{Receives, Ticks}
+use Rattle.replica_rules.specs.Rules.{Ticks}
 use Rattle.salus_world.specs.declared.world.World.{World}
 use Rattle.salus_world.proofs.Acting.{Posts, answered_kept, marks_same}
-use Rattle.salus_world.proofs.NodeSteps.{posted_sent}
 use Rattle.salus_world.proofs.world.World.tick_node.Goals as goal
 
 pub returns : goal.returns

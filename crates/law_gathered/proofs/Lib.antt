@@ -1,0 +1,5 @@
+pub mod Fronts
+pub mod Pooled
+pub mod Tagged
+pub mod Stands
+pub mod Along

@@ -1,0 +1,9 @@
+pub mod Hears
+pub mod Stepping
+pub mod Saying
+pub mod Along
+pub mod Starting
+pub mod SaidSound
+pub mod ClientReached
+pub mod Next
+pub mod Whole

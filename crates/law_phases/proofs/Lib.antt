@@ -1,0 +1,15 @@
+pub mod Told
+pub mod Sees
+pub mod Countable
+pub mod Still
+pub mod Acking
+pub mod Moving
+pub mod Cases
+pub mod Keeping
+pub mod Whole
+pub mod Rooms
+pub mod Counts
+pub mod Going
+pub mod Letters
+pub mod Lasting
+pub mod Lines

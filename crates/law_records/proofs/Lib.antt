@@ -1,0 +1,9 @@
+pub mod Numbers
+pub mod Leaders
+pub mod Own
+pub mod Content
+pub mod Counted
+pub mod Chains
+pub mod Choices
+pub mod Recovered
+pub mod Choosing

@@ -1,0 +1,11 @@
+pub mod Listed
+pub mod Chains
+pub mod Opens
+pub mod Leads
+pub mod Turning
+pub mod Planning
+pub mod Sending
+pub mod Onward
+pub mod Spelled
+pub mod Refining
+pub mod Formatted
