@@ -5,7 +5,7 @@
 use merkle_region::{path_of, root};
 use salus_hash::Digest;
 use salus_message::Answer;
-use salus_types::{Bytes, Geometry, Items, NoMemory, NodeName, Path, Strike, Strikes};
+use salus_types::{Bytes, Geometry, Items, NoMemory, NodeName, Path, Strike};
 use std::alloc::Global;
 use std::test::*;
 use verified_read::{Question, Reads, Standing, Verdict};
@@ -25,20 +25,34 @@ fn blocks_with(alloc: Global, third: u8) -> Result<Vec<Bytes>, NoMemory> {
     Ok(blocks)
 }
 
-fn root_with(alloc: Global, third: u8) -> Result<Option<Digest>, NoMemory> {
-    let blocks = blocks_with(alloc, third)?;
-    if blocks.len() != 4 {
-        return Ok(None);
+fn root_of(blocks: &[Bytes]) -> Option<Digest> {
+    if blocks.len() == 4 {
+        Some(root(2, blocks))
+    } else {
+        None
     }
-    Ok(Some(root(2, blocks.as_slice())))
+}
+
+fn root_with(alloc: Global, third: u8) -> Option<Digest> {
+    match blocks_with(alloc, third) {
+        Ok(blocks) => root_of(blocks.as_slice()),
+        Err(NoMemory) => None,
+    }
+}
+
+fn path_among(alloc: Global, blocks: &[Bytes], place: u32) -> Result<Path, NoMemory> {
+    if blocks.len() == 4 && place < 4 {
+        path_of(alloc, 2, blocks, place)
+    } else {
+        Ok(Items::new(alloc))
+    }
 }
 
 fn path_at(alloc: Global, place: u32) -> Result<Path, NoMemory> {
-    let blocks = blocks_with(alloc, 13)?;
-    if blocks.len() != 4 || place >= 4 {
-        return Ok(Items::new(alloc));
+    match blocks_with(alloc, 13) {
+        Ok(blocks) => path_among(alloc, blocks.as_slice(), place),
+        Err(NoMemory) => Err(NoMemory),
     }
-    path_of(alloc, 2, blocks.as_slice(), place)
 }
 
 /// The answer to a read of the volume's block 6, the third of region 1.
@@ -53,160 +67,234 @@ fn answer(alloc: Global, read: u64, at: u64, byte: u8) -> Result<Answer, NoMemor
     })
 }
 
+/// As a row changes it: `o` is of another block, `l` has two bytes, `s` has no path.
+fn change(alloc: Global, answer: &mut Answer, kind: u8) -> Result<(), NoMemory> {
+    match kind {
+        b'o' => answer.block = 7,
+        b'l' => answer.bytes.push(13)?,
+        b's' => answer.path = Items::new(alloc),
+        _ => {}
+    }
+    Ok(())
+}
+
 fn node(region: u16, replica: u8) -> NodeName {
     NodeName { region, replica }
 }
 
 /// Asks, if there is room and the number is new.
-fn ask(
-    alloc: Global,
-    reads: &mut Reads,
-    event: u64,
-    number: u64,
-    block: u32,
-) -> Result<bool, NoMemory> {
+fn ask(alloc: Global, reads: &mut Reads, event: u64, number: u64) -> bool {
     if reads.is_full() {
-        return Ok(false);
+        return false;
     }
     match reads.question(number) {
-        Some(_) => Ok(false),
+        Some(_) => false,
         None => {
             let question = Question {
                 event,
                 number,
-                block,
+                block: 6,
             };
-            reads.ask(alloc, question)?;
-            Ok(true)
+            reads.ask(alloc, question).is_ok()
         }
     }
 }
 
-/// What an answer from a replica of region 1 is worth.
-fn take(
+// ---- verdicts
+
+/// The root with that third block, by the letter of a row.
+fn third_of(letter: u8) -> u8 {
+    match letter {
+        b'w' => 99,
+        b'v' => 98,
+        _ => 13,
+    }
+}
+
+/// The verdict as a letter, where it names these roots, or that batch.
+fn letter_of(verdict: Verdict, at: u64, held: Digest, got: Digest) -> u8 {
+    match verdict {
+        Verdict::Unknown => b'u',
+        Verdict::Block => b'g',
+        Verdict::Stale { .. } if verdict == Verdict::Stale { at } => b's',
+        Verdict::Past { .. } if verdict == Verdict::Past { at } => b'p',
+        Verdict::Bad { .. } if verdict == Verdict::Bad { held, got } => b'b',
+        _ => b'?',
+    }
+}
+
+/// What an answer is worth, as a letter.
+fn take(reads: &mut Reads, from: NodeName, answer: &Answer, held: Digest, got: Digest) -> u8 {
+    let verdict = reads.take_answer(from, answer, NUMBER, &held);
+    letter_of(verdict, answer.at, held, got)
+}
+
+fn judged(
     alloc: Global,
     reads: &mut Reads,
-    held: &Digest,
-    (replica, read, at, byte): (u8, u64, u64, u8),
-) -> Result<Verdict, NoMemory> {
-    let answer = answer(alloc, read, at, byte)?;
-    Ok(reads.take_answer(node(1, replica), &answer, NUMBER, held))
+    from: NodeName,
+    made: Result<Answer, NoMemory>,
+    third: u8,
+) -> u8 {
+    let (Some(held), Some(got)) = (root_with(alloc, 13), root_with(alloc, third)) else {
+        return b'?';
+    };
+    match &made {
+        Ok(answer) => take(reads, from, answer, held, got),
+        Err(NoMemory) => b'?',
+    }
 }
 
-/// Whether answers that fit no question are told so: another number, another block, a sender of region 0, and a block
-/// and a path of another length.
-fn strangers(alloc: Global, reads: &mut Reads, held: &Digest) -> Result<bool, NoMemory> {
-    let mut other = answer(alloc, 9, NUMBER, 13)?;
-    other.block = 7;
-    let mut long = answer(alloc, 9, NUMBER, 13)?;
-    long.bytes.push(13)?;
-    let mut short = answer(alloc, 9, NUMBER, 13)?;
-    short.path = Items::new(alloc);
-    let right = answer(alloc, 9, NUMBER, 13)?;
-    let unknown = take(alloc, reads, held, (0, 8, NUMBER, 13))? == Verdict::Unknown
-        && reads.take_answer(node(1, 0), &other, NUMBER, held) == Verdict::Unknown
-        && reads.take_answer(node(0, 0), &right, NUMBER, held) == Verdict::Unknown
-        && reads.take_answer(node(1, 0), &long, NUMBER, held) == Verdict::Unknown
-        && reads.take_answer(node(1, 0), &short, NUMBER, held) == Verdict::Unknown;
-    Ok(unknown && reads.count() == 1)
+fn answer_of(alloc: Global, kind: u8, read: u64, at: u64, third: u8) -> Result<Answer, NoMemory> {
+    match answer(alloc, read, at, third) {
+        Ok(mut made) => match change(alloc, &mut made, kind) {
+            Ok(()) => Ok(made),
+            Err(NoMemory) => Err(NoMemory),
+        },
+        Err(NoMemory) => Err(NoMemory),
+    }
 }
 
-fn is_fault(reads: &Reads, read: u64, strikes: &Strikes) -> bool {
-    match reads.faulted(read) {
-        Some(found) => *found == *strikes,
+/// Whether these are the strikes of all three replicas, the first of its first answer.
+fn are_all_struck(strikes: &[Option<Strike>], held: Digest, first: Digest, second: Digest) -> bool {
+    let past = Strike::Past {
+        at: 7,
+        number: NUMBER,
+    };
+    strikes
+        == [
+            Some(past),
+            Some(Strike::Bad { held, got: second }),
+            Some(Strike::Bad { held, got: first }),
+        ]
+        .as_slice()
+}
+
+fn is_fault_of_all(alloc: Global, reads: &Reads, read: u64) -> bool {
+    match (
+        reads.faulted(read),
+        root_with(alloc, 13),
+        root_with(alloc, 99),
+        root_with(alloc, 98),
+    ) {
+        (Some(strikes), Some(held), Some(first), Some(second)) => {
+            are_all_struck(strikes.as_slice(), held, first, second)
+        }
+        _ => false,
+    }
+}
+
+fn digit(byte: u8) -> u8 {
+    byte.saturating_sub(b'0')
+}
+
+fn number(tens: u8, ones: u8) -> u64 {
+    digit(tens) as u64 * 10 + digit(ones) as u64
+}
+
+/// A row that asks, closes, or looks.
+fn is_so(alloc: Global, reads: &mut Reads, step: u8, number: u64) -> bool {
+    match step {
+        b'q' => ask(alloc, reads, number, number),
+        b'c' => {
+            reads.close(number);
+            true
+        }
+        b'n' => reads.count() == number,
+        b'f' => reads.faulted(number).is_none(),
+        b'k' => reads.question(number).is_none(),
+        _ => is_fault_of_all(alloc, reads, number),
+    }
+}
+
+/// Whether a row of seven bytes holds: a step with a number, or an answer by its kind, its replica, its read, its batch and
+/// its third block, with its verdict.
+fn row_holds(alloc: Global, reads: &mut Reads, row: &[u8]) -> bool {
+    let [kind, replica, tens, ones, at, third, letter] = row else {
+        return false;
+    };
+    let read = number(*tens, *ones);
+    if *replica == b'.' {
+        return is_so(alloc, reads, *kind, read);
+    }
+    let from = node(u16::from(*kind != b'r'), digit(*replica));
+    let third = third_of(*third);
+    let made = answer_of(alloc, *kind, read, u64::from(digit(*at)), third);
+    judged(alloc, reads, from, made, third) == *letter
+}
+
+fn wrong_in<'a>(alloc: Global, reads: &mut Reads, text: &'a [u8]) -> Option<&'a [u8]> {
+    for row in text.chunks(7) {
+        if !row_holds(alloc, reads, row) {
+            return Some(row);
+        }
+    }
+    None
+}
+
+/// Answers that fit no question: another number, another block, a sender of region 0, a block and a path of another length.
+/// Two of three replicas are struck, one of them after a stale answer and one that is past, and then one of these gives the
+/// block. Then all three are struck, the first of them twice; its first strike stays.
+fn verdicts() -> &'static [u8] {
+    b"q.09...t0085aur0095auo0095aul0095aus0095aun.01...\
+        t0094ast0096apt1095wbt0095wbf.09...n.01...t1095agn.00...k.09...\
+        q.10...t0107apt0105vbt2105wbf.10...t1105vbx.10...c.10...f.10...n.00..."
+}
+
+fn wrong_verdict(alloc: Global) -> Option<&'static [u8]> {
+    let Ok(geometry) = Geometry::new(1, 2, 1, 3) else {
+        return Some(b"");
+    };
+    wrong_in(alloc, &mut Reads::new(alloc, &geometry), verdicts())
+}
+
+// ---- as a caller does who climbs the path by itself
+
+/// Whether an answer with another block is judged before its path, and strikes by the path's root then.
+fn strikes(asks: &mut Reads, wrong: &Answer, held: Digest, got: Digest) -> bool {
+    let is_judged = asks.judge(node(0, 0), wrong, NUMBER) == Standing::Unknown
+        && asks.judge(node(1, 0), wrong, NUMBER) == Standing::Present
+        && asks.faulted(wrong.read).is_none();
+    asks.take_differing(node(1, 0), wrong, &held, &got);
+    let is_past = asks.judge(node(1, 0), wrong, 3) == Standing::Past { at: NUMBER };
+    match asks.faulted(wrong.read) {
+        Some(strikes) => {
+            is_judged
+                && is_past
+                && strikes.as_slice() == [Some(Strike::Bad { held, got })].as_slice()
+        }
         None => false,
     }
 }
 
-/// Two of three replicas are struck, one of them twice, and then one of these gives the block.
-fn struck_and_given(alloc: Global, reads: &mut Reads, held: &Digest) -> Result<bool, NoMemory> {
-    let Some(got) = root_with(alloc, 99)? else {
-        return Ok(false);
-    };
-    let held_now = *held;
-    let judged = take(alloc, reads, held, (0, 9, 4, 13))? == Verdict::Stale { at: 4 }
-        && take(alloc, reads, held, (0, 9, 6, 13))? == Verdict::Past { at: 6 }
-        && take(alloc, reads, held, (1, 9, NUMBER, 99))?
-            == Verdict::Bad {
-                held: held_now,
-                got,
-            }
-        && take(alloc, reads, held, (0, 9, NUMBER, 99))?
-            == Verdict::Bad {
-                held: held_now,
-                got,
-            };
-    let open = reads.faulted(9).is_none() && reads.count() == 1;
-    let given = take(alloc, reads, held, (1, 9, NUMBER, 13))? == Verdict::Block;
-    Ok(judged && open && given && reads.count() == 0 && reads.question(9).is_none())
+fn is_stale(alloc: Global, asks: &mut Reads, read: u64) -> bool {
+    match answer(alloc, read, 4, 13) {
+        Ok(stale) => asks.judge(node(1, 0), &stale, NUMBER) == Standing::Stale { at: 4 },
+        Err(NoMemory) => false,
+    }
 }
 
-/// All three replicas are struck, the first of them twice; its first strike stays.
-fn struck_by_all(alloc: Global, reads: &mut Reads, held: &Digest) -> Result<bool, NoMemory> {
-    let (Some(first), Some(second)) = (root_with(alloc, 99)?, root_with(alloc, 98)?) else {
-        return Ok(false);
+fn is_judged_first(alloc: Global, asks: &mut Reads, read: u64) -> bool {
+    let (Some(held), Some(got)) = (root_with(alloc, 13), root_with(alloc, 99)) else {
+        return false;
     };
-    let _ = take(alloc, reads, held, (0, 10, 7, 13))?;
-    let _ = take(alloc, reads, held, (0, 10, NUMBER, 98))?;
-    let _ = take(alloc, reads, held, (2, 10, NUMBER, 99))?;
-    let open = reads.faulted(10).is_none();
-    let _ = take(alloc, reads, held, (1, 10, NUMBER, 98))?;
-    let mut strikes = Items::new(alloc);
-    let (held, number) = (*held, NUMBER);
-    strikes.push(Some(Strike::Past { at: 7, number }))?;
-    strikes.push(Some(Strike::Bad { held, got: second }))?;
-    strikes.push(Some(Strike::Bad { held, got: first }))?;
-    let fault = is_fault(reads, 10, &strikes);
-    reads.close(10);
-    Ok(open && fault && reads.faulted(10).is_none() && reads.count() == 0)
+    match answer(alloc, read, NUMBER, 99) {
+        Ok(wrong) => is_stale(alloc, asks, read) && strikes(asks, &wrong, held, got),
+        Err(NoMemory) => false,
+    }
 }
 
-fn verdicts(alloc: Global) -> Result<bool, NoMemory> {
-    let Ok(geometry) = Geometry::new(1, 2, 1, 3) else {
-        return Ok(false);
-    };
-    let Some(held) = root_with(alloc, 13)? else {
-        return Ok(false);
-    };
-    let mut reads = Reads::new(alloc, &geometry);
-    Ok(
-        ask(alloc, &mut reads, 9, 9, 6)?
-            && strangers(alloc, &mut reads, &held)?
-            && struck_and_given(alloc, &mut reads, &held)?
-            && ask(alloc, &mut reads, 10, 10, 6)?
-            && struck_by_all(alloc, &mut reads, &held)?,
-    )
-}
-
-#[test]
-fn answers_are_judged_in_turn(rt: HostRuntime) {
-    assert!(rt; matches!(verdicts(rt.alloc()), Ok(true)));
-}
-
-/// As a caller does who climbs the path by itself.
-fn judged_first(alloc: Global) -> Result<bool, NoMemory> {
+fn judged_first(alloc: Global) -> bool {
     let Ok(geometry) = Geometry::new(1, 2, 1, 1) else {
-        return Ok(false);
-    };
-    let (Some(held), Some(got)) = (root_with(alloc, 13)?, root_with(alloc, 99)?) else {
-        return Ok(false);
+        return false;
     };
     let mut asks = Reads::new(alloc, &geometry);
-    ask(alloc, &mut asks, 2, 4294967298, 6)?;
-    let stale = answer(alloc, 4294967298, 4, 13)?;
-    let wrong = answer(alloc, 4294967298, NUMBER, 99)?;
-    let judged = asks.judge(node(0, 0), &wrong, NUMBER) == Standing::Unknown
-        && asks.judge(node(1, 0), &stale, NUMBER) == Standing::Stale { at: 4 }
-        && asks.judge(node(1, 0), &wrong, NUMBER) == Standing::Present
-        && asks.faulted(4294967298).is_none();
-    asks.take_differing(node(1, 0), &wrong, &held, &got);
-    let past = asks.judge(node(1, 0), &wrong, 3) == Standing::Past { at: NUMBER };
-    let mut strikes = Items::new(alloc);
-    strikes.push(Some(Strike::Bad { held, got }))?;
-    Ok(judged && past && is_fault(&asks, 4294967298, &strikes))
+    let number = 4294967298;
+    ask(alloc, &mut asks, 2, number) && is_judged_first(alloc, &mut asks, number)
 }
 
 #[test]
-fn an_answer_is_judged_before_its_path(rt: HostRuntime) {
-    assert!(rt; matches!(judged_first(rt.alloc()), Ok(true)));
+fn answers_are_judged(rt: HostRuntime) {
+    assert_eq!(rt; wrong_verdict(rt.alloc()), None);
+    assert!(rt; judged_first(rt.alloc()));
 }

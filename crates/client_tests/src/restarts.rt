@@ -3,7 +3,7 @@
 
 ghost use Rattle.std.specs.Prelude.{◌<◌, IsTrue};
 ghost use Rattle.salus_types.specs.Volume.{regions};
-ghost use Rattle.salus_message.specs.Ranges.{IsHeld};
+ghost use Rattle.salus_message.specs.Ranges.{IsHeld, IsMessage};
 
 use region_reassign::Fetch;
 use restart_pool::Pool;
@@ -13,7 +13,7 @@ use salus_types::{Blocks, Bytes, Geometry, Items, NoMemory, NodeName};
 use std::alloc::Global;
 use std::str::SplitWhitespace;
 use std::test::*;
-use volume_restart::{Phase, Restart};
+use volume_restart::{Choice, Phase, Restart};
 
 /// A restart whose replies are read line by line, and a pool beside it.
 #[derive(Drop)]
@@ -68,41 +68,30 @@ fn node(geometry: &Geometry, words: &mut SplitWhitespace) -> Option<NodeName> {
 }
 
 /// The scene of a text's first line.
-fn scene_of(alloc: Global, line: &str) -> Result<Option<Scene>, NoMemory> {
+fn scene_of(alloc: Global, line: &str) -> Option<Scene> {
     let mut words = line.split_whitespace();
     let first = words.next();
-    match volume(&mut words) {
-        Some(geometry) => {
-            let key = bytes(alloc, &mut words);
-            if first != Some("volume") || key.len() > 64 {
-                return Ok(None);
-            }
-            Ok(Some(Scene {
-                geometry,
-                key: HmacKey::new(key.as_slice()),
-                restart: Restart::new(alloc, geometry, 9)?,
-                pool: Pool::new(alloc, geometry),
-            }))
-        }
-        None => Ok(None),
+    let geometry = volume(&mut words)?;
+    let key = bytes(alloc, &mut words);
+    if first != Some("volume") || key.len() > 64 {
+        return None;
+    }
+    let key = HmacKey::new(key.as_slice());
+    match Restart::new(alloc, geometry, 9) {
+        Ok(restart) => Some(Scene {
+            geometry,
+            key,
+            restart,
+            pool: Pool::new(alloc, geometry),
+        }),
+        Err(NoMemory) => None,
     }
 }
 
-/// Takes a node's reply, and says whether it was one.
-fn take_reply(
-    alloc: Global,
-    scene: &mut Scene,
-    words: &mut SplitWhitespace,
-) -> Result<bool, NoMemory> {
-    let Some(from) = node(&scene.geometry, words) else {
-        return Ok(false);
-    };
-    match decode(alloc, bytes(alloc, words).as_slice()) {
-        Ok(Message::Gathered(reply)) => {
-            hand(alloc, &mut scene.restart, from, &scene.key, &reply)?;
-            Ok(true)
-        }
-        _ => Ok(false),
+fn is_done(done: Result<(), NoMemory>) -> Result<bool, NoMemory> {
+    match done {
+        Ok(()) => Ok(true),
+        Err(NoMemory) => Err(NoMemory),
     }
 }
 
@@ -113,27 +102,55 @@ fn hand(
     from: NodeName,
     key: &HmacKey,
     reply: &Gathered,
-) -> Result<(), NoMemory>
+) -> Result<bool, NoMemory>
     requires { IsHeld reply.now.held }
 {
     if is_node(&restart.geometry(), from) {
-        restart.gathered(alloc, from, key, reply)?;
+        is_done(restart.gathered(alloc, from, key, reply))
+    } else {
+        Ok(true)
     }
-    Ok(())
 }
 
-/// Adds a base or a part to the pool, and says whether it was one.
-fn add(alloc: Global, scene: &mut Scene, words: &mut SplitWhitespace) -> Result<bool, NoMemory> {
-    match decode(alloc, bytes(alloc, words).as_slice()) {
-        Ok(Message::Stage(m)) => {
-            scene.pool.add_base(alloc, &scene.key, &m.base)?;
-            Ok(true)
+/// Takes a node's reply, or adds a base or a part to the pool; whether it was one of these.
+fn take(
+    alloc: Global,
+    scene: &mut Scene,
+    from: Option<NodeName>,
+    message: &Message,
+) -> Result<bool, NoMemory>
+    requires { IsMessage message.now }
+{
+    match (from, message) {
+        (Some(from), Message::Gathered(reply)) => {
+            hand(alloc, &mut scene.restart, from, &scene.key, reply)
         }
-        Ok(Message::Part(m)) => {
-            scene.pool.add_record(alloc, &scene.key, &m.rec)?;
-            Ok(true)
-        }
+        (None, Message::Stage(m)) => is_done(scene.pool.add_base(alloc, &scene.key, &m.base)),
+        (None, Message::Part(m)) => is_done(scene.pool.add_record(alloc, &scene.key, &m.rec)),
         _ => Ok(false),
+    }
+}
+
+fn take_spelled(
+    alloc: Global,
+    scene: &mut Scene,
+    from: Option<NodeName>,
+    spelled: &[u8],
+) -> Result<bool, NoMemory> {
+    match decode(alloc, spelled) {
+        Ok(message) => take(alloc, scene, from, &message),
+        Err(_) => Ok(false),
+    }
+}
+
+fn take_reply(
+    alloc: Global,
+    scene: &mut Scene,
+    words: &mut SplitWhitespace,
+) -> Result<bool, NoMemory> {
+    match node(&scene.geometry, words) {
+        Some(from) => take_spelled(alloc, scene, Some(from), bytes(alloc, words).as_slice()),
+        None => Ok(false),
     }
 }
 
@@ -156,62 +173,161 @@ fn is_spelled(
     }
 }
 
-/// Whether the pool gives these contents at these fronts.
-fn assembles(alloc: Global, scene: &Scene, words: &mut SplitWhitespace) -> Result<bool, NoMemory> {
-    let session = number(words);
+/// A number for each region.
+fn fronts_of(
+    alloc: Global,
+    geometry: &Geometry,
+    words: &mut SplitWhitespace,
+) -> Result<Vec<u64>, NoMemory> {
     let mut fronts = Vec::new(alloc);
-    for _ in 0..scene.geometry.regions() {
+    for _ in 0..geometry.regions() {
         fronts.push(number(words))?;
     }
-    let found = scene.pool.assemble(alloc, session, fronts.as_slice())?;
-    is_spelled(alloc, found.as_ref(), words.next())
+    Ok(fronts)
+}
+
+/// Whether the pool gives these contents at these fronts.
+fn gives(
+    alloc: Global,
+    pool: &Pool,
+    session: u64,
+    fronts: &[u64],
+    word: Option<&str>,
+) -> Result<bool, NoMemory> {
+    match pool.assemble(alloc, session, fronts) {
+        Ok(found) => is_spelled(alloc, found.as_ref(), word),
+        Err(NoMemory) => Err(NoMemory),
+    }
+}
+
+fn assembles(alloc: Global, scene: &Scene, words: &mut SplitWhitespace) -> Result<bool, NoMemory> {
+    let session = number(words);
+    match fronts_of(alloc, &scene.geometry, words) {
+        Ok(fronts) => gives(alloc, &scene.pool, session, fronts.as_slice(), words.next()),
+        Err(NoMemory) => Err(NoMemory),
+    }
+}
+
+fn is_choice(
+    alloc: Global,
+    choice: &Option<Choice>,
+    words: &mut SplitWhitespace,
+) -> Result<bool, NoMemory> {
+    match choice {
+        None => Ok(words.next() == Some("none")),
+        Some(choice) => {
+            let same = number(words) == choice.session && number(words) == choice.number;
+            Ok(is_spelled(alloc, Some(&choice.contents), words.next())? && same)
+        }
+    }
 }
 
 /// Whether all replies are in, and this is chosen.
-fn chooses(alloc: Global, scene: &Scene, words: &mut SplitWhitespace) -> Result<bool, NoMemory> {
-    if !scene.restart.all_in() {
+fn chooses(
+    alloc: Global,
+    restart: &Restart,
+    words: &mut SplitWhitespace,
+) -> Result<bool, NoMemory> {
+    if !restart.all_in() {
         return Ok(false);
     }
-    match scene.restart.choose(alloc)? {
-        None => Ok(words.next() == Some("none")),
-        Some(choice) => {
-            let session = number(words);
-            let seq = number(words);
-            let same = is_spelled(alloc, Some(&choice.contents), words.next())?;
-            Ok(same && session == choice.session && seq == choice.number)
+    match restart.choose(alloc) {
+        Ok(choice) => is_choice(alloc, &choice, words),
+        Err(NoMemory) => Err(NoMemory),
+    }
+}
+
+fn phase_word(restart: &Restart) -> &'static str {
+    match restart.phase() {
+        Phase::Gathering => "gathering",
+        Phase::Staging => "staging",
+        Phase::Switching => "switching",
+        Phase::Done => "done",
+    }
+}
+
+/// Whether those replicas of region 0 are waited for that have a 1.
+fn waits_so(restart: &Restart, marks: &[u8]) -> bool {
+    let mut replica = 0u8;
+    for mark in marks {
+        let name = NodeName { region: 0, replica };
+        if !is_node(&restart.geometry(), name) || restart.waits_for(name) != (*mark == b'1') {
+            return false;
+        }
+        replica = replica.saturating_add(1);
+    }
+    u32::from(replica) == restart.geometry().replicas()
+}
+
+/// Whether the phase is that of the words and those are waited for, where there are words.
+fn stands(restart: &Restart, words: &mut SplitWhitespace) -> bool {
+    match words.next() {
+        Some(phase) => {
+            phase == phase_word(restart) && waits_so(restart, words.next().unwrap_or("").as_bytes())
+        }
+        None => true,
+    }
+}
+
+fn staged(restart: &mut Restart, from: Option<NodeName>) {
+    if let Some(from) = from {
+        if is_node(&restart.geometry(), from) {
+            restart.staged(from);
         }
     }
+}
+
+fn switched(restart: &mut Restart, from: Option<NodeName>) {
+    if let Some(from) = from {
+        if is_node(&restart.geometry(), from) {
+            restart.switched(from);
+        }
+    }
+}
+
+/// Does what the words say of the phases; whether they say so.
+fn goes_on(scene: &mut Scene, step: &str, words: &mut SplitWhitespace) -> bool {
+    match step {
+        "begin" => scene.restart.begin_staging(),
+        "staged" => staged(&mut scene.restart, node(&scene.geometry, words)),
+        "switched" => switched(&mut scene.restart, node(&scene.geometry, words)),
+        _ => return false,
+    }
+    stands(&scene.restart, words)
 }
 
 /// Whether the line comes out as it says.
 fn holds(alloc: Global, scene: &mut Scene, line: &str) -> Result<bool, NoMemory> {
     let mut words = line.split_whitespace();
-    match words.next() {
-        Some("reply") => take_reply(alloc, scene, &mut words),
-        Some("base") => add(alloc, scene, &mut words),
-        Some("part") => add(alloc, scene, &mut words),
-        Some("kept") => Ok(scene.pool.headers().len() as u64 == number(&mut words)),
-        Some("assemble") => assembles(alloc, scene, &mut words),
-        Some("choice") => chooses(alloc, scene, &mut words),
-        _ => Ok(false),
+    match words.next().unwrap_or("") {
+        "reply" => {
+            let is_reply = take_reply(alloc, scene, &mut words)?;
+            Ok(is_reply && stands(&scene.restart, &mut words))
+        }
+        "base" | "part" => { take_spelled(alloc, scene, None, bytes(alloc, &mut words).as_slice()) }
+        "kept" => Ok(scene.pool.headers().len() as u64 == number(&mut words)),
+        "assemble" => assembles(alloc, scene, &mut words),
+        "choice" => chooses(alloc, &scene.restart, &mut words),
+        step => Ok(goes_on(scene, step, &mut words)),
     }
 }
 
-/// The first of the lines that doesn't come out as it says; the first line says the volume and the key.
-fn wrong_line<'a>(alloc: Global, text: &'a str) -> Result<Option<&'a str>, NoMemory> {
-    let mut lines = text.lines();
-    let Some(first) = lines.next() else {
-        return Ok(Some(text));
-    };
-    let Some(mut scene) = scene_of(alloc, first)? else {
-        return Ok(Some(first));
-    };
-    for line in lines {
-        if !holds(alloc, &mut scene, line)? {
-            return Ok(Some(line));
+/// The first of the lines behind the first that doesn't come out as it says.
+fn wrong_in<'a>(alloc: Global, scene: &mut Scene, text: &'a str) -> Option<&'a str> {
+    for line in text.lines().skip(1) {
+        if !matches!(holds(alloc, scene, line), Ok(true)) {
+            return Some(line);
         }
     }
-    Ok(None)
+    None
+}
+
+/// The same of a text whose first line says the volume and the key.
+fn wrong_line<'a>(alloc: Global, text: &'a str) -> Option<&'a str> {
+    match scene_of(alloc, text.lines().next().unwrap_or("")) {
+        Some(mut scene) => wrong_in(alloc, &mut scene, text),
+        None => Some(text),
+    }
 }
 
 /// Batch 2 touches both regions, and stands at one of them only: the batch before it is chosen.
@@ -645,102 +761,6 @@ fn records_that_do_not_fit() -> &'static str {
     choice 1 0 0000000000000000"
 }
 
-#[test]
-fn worked_restarts(rt: HostRuntime) -> Result<(), Fail> {
-    for text in [
-        part_at_one_region_only(),
-        batch_at_both_regions(),
-        later_session_first(),
-        record_with_wrong_tag(),
-        base_with_changed_block(),
-        chain_with_gap(),
-        folded_base(),
-        nothing_held(),
-        three_replicas_differ(),
-        second_reply_not_counted(),
-        two_parts_of_one_number(),
-        records_that_do_not_fit(),
-    ] {
-        assert_eq!(rt; wrong_line(rt.alloc(), text)?, None);
-    }
-    Ok(())
-}
-
-fn phase_word(restart: &Restart) -> &'static str {
-    match restart.phase() {
-        Phase::Gathering => "gathering",
-        Phase::Staging => "staging",
-        Phase::Switching => "switching",
-        Phase::Done => "done",
-    }
-}
-
-/// Whether the phase is that one, and those of region 0 that are waited for have a 1.
-fn stands(alloc: Global, restart: &Restart, words: &mut SplitWhitespace) -> Result<bool, NoMemory> {
-    let mut waits = String::new(alloc);
-    for replica in 0..5 {
-        let name = NodeName { region: 0, replica };
-        if is_node(&restart.geometry(), name) {
-            waits.push(if restart.waits_for(name) { '1' } else { '0' })?;
-        }
-    }
-    Ok(words.next() == Some(phase_word(restart)) && words.next() == Some(waits.as_str()))
-}
-
-fn staged(restart: &mut Restart, from: NodeName) {
-    if is_node(&restart.geometry(), from) {
-        restart.staged(from);
-    }
-}
-
-fn switched(restart: &mut Restart, from: NodeName) {
-    if is_node(&restart.geometry(), from) {
-        restart.switched(from);
-    }
-}
-
-/// Whether the phase after the step is as the line says.
-fn steps(alloc: Global, scene: &mut Scene, line: &str) -> Result<bool, NoMemory> {
-    let mut words = line.split_whitespace();
-    match words.next() {
-        Some("reply") => {
-            if !take_reply(alloc, scene, &mut words)? {
-                return Ok(false);
-            }
-        }
-        Some("begin") => scene.restart.begin_staging(),
-        Some("staged") => {
-            if let Some(from) = node(&scene.geometry, &mut words) {
-                staged(&mut scene.restart, from);
-            }
-        }
-        Some("switched") => {
-            if let Some(from) = node(&scene.geometry, &mut words) {
-                switched(&mut scene.restart, from);
-            }
-        }
-        _ => return Ok(false),
-    }
-    stands(alloc, &scene.restart, &mut words)
-}
-
-/// The first of the lines after which the phase isn't as it says.
-fn wrong_step<'a>(alloc: Global, text: &'a str) -> Result<Option<&'a str>, NoMemory> {
-    let mut lines = text.lines();
-    let Some(first) = lines.next() else {
-        return Ok(Some(text));
-    };
-    let Some(mut scene) = scene_of(alloc, first)? else {
-        return Ok(Some(first));
-    };
-    for line in lines {
-        if !steps(alloc, &mut scene, line)? {
-            return Ok(Some(line));
-        }
-    }
-    Ok(None)
-}
-
 /// Answers out of turn, twice, and of another session: none of them counts.
 fn phases() -> &'static str {
     "\
@@ -769,46 +789,68 @@ fn phases() -> &'static str {
     begin staging 111"
 }
 
-#[test]
-fn phases_out_of_turn(rt: HostRuntime) -> Result<(), Fail> {
-    assert_eq!(rt; wrong_step(rt.alloc(), phases())?, None);
-    Ok(())
-}
-
-/// Two blocks of one byte each.
-fn two_blocks(alloc: Global, left: u8, right: u8) -> Result<Blocks, NoMemory> {
+/// Two blocks of one byte each, and an empty one where more are asked for.
+fn blocks_of(alloc: Global, left: u8, right: u8, more: bool) -> Result<Blocks, NoMemory> {
     let mut blocks = Items::new(alloc);
     blocks.push(Items::from_slice(alloc, &[left])?)?;
     blocks.push(Items::from_slice(alloc, &[right])?)?;
-    Ok(blocks)
-}
-
-/// Of these blocks of a volume of two regions, from this replica, whether they are those of region 1 with the root that
-/// is held.
-fn fetched(alloc: Global, region: u16, left: u8, right: u8, more: bool) -> Result<bool, NoMemory> {
-    let Ok(geometry) = Geometry::new(1, 1, 1, 2) else {
-        return Ok(false);
-    };
-    let root = node_digest(&leaf_digest(&[5]), &leaf_digest(&[6]));
-    let fetch = Fetch::new(geometry, 1, root);
-    let mut blocks = two_blocks(alloc, left, right)?;
     if more {
         blocks.push(Bytes::new(alloc))?;
     }
-    Ok(fetch.take(NodeName { region, replica: 1 }, &blocks))
+    Ok(blocks)
+}
+
+/// Of blocks of a volume of two regions, from a replica of that region, whether they are those of region 1 with the root
+/// that is held.
+fn is_fetched(region: u16, blocks: &Blocks) -> bool {
+    let Ok(geometry) = Geometry::new(1, 1, 1, 2) else {
+        return false;
+    };
+    let root = node_digest(&leaf_digest(&[b'5']), &leaf_digest(&[b'6']));
+    Fetch::new(geometry, 1, root).take(NodeName { region, replica: 1 }, blocks)
+}
+
+/// Whether the blocks of a row of five bytes are fetched as it says: a region, two blocks, `+` where there are more, and `y`.
+fn fetches(alloc: Global, row: &[u8]) -> bool {
+    let [region, left, right, more, fetched] = row else {
+        return false;
+    };
+    match blocks_of(alloc, *left, *right, *more == b'+') {
+        Ok(blocks) => {
+            is_fetched(u16::from(region.saturating_sub(b'0')), &blocks) == (*fetched == b'y')
+        }
+        Err(NoMemory) => false,
+    }
+}
+
+/// The row of the first blocks that aren't fetched so.
+fn wrong_fetch(alloc: Global) -> Option<&'static [u8]> {
+    for row in b"156.y056.n165.n157.n156+n".chunks(5) {
+        if !fetches(alloc, row) {
+            return Some(row);
+        }
+    }
+    None
 }
 
 #[test]
-fn fetched_blocks(rt: HostRuntime) -> Result<(), Fail> {
-    let alloc = rt.alloc();
-    for (region, left, right, more, expected) in [
-        (1, 5, 6, false, true),
-        (0, 5, 6, false, false),
-        (1, 6, 5, false, false),
-        (1, 5, 7, false, false),
-        (1, 5, 6, true, false),
+fn worked_restarts(rt: HostRuntime) {
+    for text in [
+        part_at_one_region_only(),
+        batch_at_both_regions(),
+        later_session_first(),
+        record_with_wrong_tag(),
+        base_with_changed_block(),
+        chain_with_gap(),
+        folded_base(),
+        nothing_held(),
+        three_replicas_differ(),
+        second_reply_not_counted(),
+        two_parts_of_one_number(),
+        records_that_do_not_fit(),
+        phases(),
     ] {
-        assert!(rt; fetched(alloc, region, left, right, more)? == expected);
+        assert_eq!(rt; wrong_line(rt.alloc(), text), None);
     }
-    Ok(())
+    assert_eq!(rt; wrong_fetch(rt.alloc()), None);
 }

@@ -1,10 +1,11 @@
 //! The client's window of batches. What its parts must say, byte by byte, was written by a program in Python from lists
 //! of numbers and made-up roots; batches, claims and barriers follow lists made by hand.
 
-ghost use Rattle.std.specs.Prelude.{◌≡◌, ◌<◌, All, IsTrue, length};
+ghost use Rattle.std.specs.Prelude.{◌≡◌, ◌<◌, All, IfSome, IsTrue, length};
 ghost use Rattle.salus_types.specs.Volume.{blocks};
 ghost use Rattle.client_tag.specs.Ranges.{IsRecord};
 ghost use Rattle.client_window.specs.Window.{IsWriteOf};
+ghost use Rattle.volume_model.specs.Parts.{touched_by};
 
 use client_tag::payload;
 use client_window::{Window, touched_regions};
@@ -35,19 +36,29 @@ fn root_after(seq: u64, region: u16) -> Digest {
     plain(seq % 16 * 16 + u64::from(region))
 }
 
-/// Four regions of two blocks of two bytes, two replicas each; session 3 begins at number 4.
-fn window(alloc: Global) -> Result<Option<Window>, NoMemory> {
-    let Ok(geometry) = Geometry::new(2, 1, 2, 2) else {
-        return Ok(None);
-    };
+fn first_roots(alloc: Global, geometry: &Geometry) -> Result<Digests, NoMemory> {
     let mut roots = Items::new(alloc);
     'regions: for region in 0..geometry.regions() as u16 {
         roots.push(root_after(0, region))?;
     }
-    if roots.len() != geometry.regions() as usize {
-        return Ok(None);
+    Ok(roots)
+}
+
+fn window_with(alloc: Global, geometry: Geometry, roots: &Digests) -> Option<Window> {
+    if roots.len() == geometry.regions() as usize {
+        Window::new(alloc, geometry, 3, 4, roots).ok()
+    } else {
+        None
     }
-    Ok(Some(Window::new(alloc, geometry, 3, 4, &roots)?))
+}
+
+/// Four regions of two blocks of two bytes, two replicas each; session 3 begins at number 4.
+fn window(alloc: Global) -> Option<Window> {
+    let geometry = Geometry::new(2, 1, 2, 2).ok()?;
+    match first_roots(alloc, &geometry) {
+        Ok(roots) => window_with(alloc, geometry, &roots),
+        Err(NoMemory) => None,
+    }
 }
 
 // ---- batches
@@ -96,13 +107,32 @@ fn are_in(geometry: &Geometry, writes: &[Write]) -> bool
     true
 }
 
-/// Made-up roots for the regions that the batch touches.
-fn roots_for(alloc: Global, seq: u64, touched: &Regions) -> Result<Digests, NoMemory> {
+/// Made-up roots for these regions.
+fn made_roots(alloc: Global, seq: u64, touched: &Regions) -> Result<Digests, NoMemory> {
     let mut roots = Items::new(alloc);
     'regions: for region in touched.as_slice() {
         roots.push(root_after(seq, *region))?;
     }
     Ok(roots)
+}
+
+fn roots_for(alloc: Global, seq: u64, touched: &Regions) -> Option<Digests>
+    ensures { IfSome result (λ roots. length roots ≡ length touched.now) }
+{
+    match made_roots(alloc, seq, touched) {
+        Ok(roots) if roots.len() == touched.len() => Some(roots),
+        _ => None,
+    }
+}
+
+/// Made-up roots for the regions that the batch touches.
+fn roots_of(alloc: Global, window: &Window, batch: &Batch) -> Option<Digests>
+    ensures { IfSome result (λ roots. length roots ≡ length (touched_by window.now.shape batch.now)) }
+{
+    match touched_regions(alloc, &window.geometry(), batch) {
+        Ok(touched) => roots_for(alloc, window.submitted() % 16 + 1, &touched),
+        Err(NoMemory) => None,
+    }
 }
 
 /// Whether the payloads of the parts are those that the words spell; without words nothing is asked.
@@ -124,25 +154,51 @@ fn are_spelled(
     Ok(words.next() == None)
 }
 
+/// Submits the batch with these roots, and says whether its parts are those that the words spell.
+fn submit_with(
+    alloc: Global,
+    window: &mut Window,
+    batch: &Batch,
+    roots: &Digests,
+    words: &mut SplitWhitespace,
+) -> Result<bool, NoMemory>
+    requires { length roots.now ≡ length (touched_by window.old.shape batch.now) }
+{
+    let geometry = window.geometry();
+    if window.is_full()
+        || window.submitted() == u64::MAX
+        || batch.len() > 64
+        || !are_in(&geometry, batch.as_slice())
+    {
+        return Ok(false);
+    }
+    match window.submit(alloc, batch, roots) {
+        Ok(parts) => are_spelled(alloc, parts.as_slice(), words),
+        Err(NoMemory) => Err(NoMemory),
+    }
+}
+
+fn submit_batch(
+    alloc: Global,
+    window: &mut Window,
+    batch: &Batch,
+    words: &mut SplitWhitespace,
+) -> Result<bool, NoMemory> {
+    match roots_of(alloc, window, batch) {
+        Some(roots) => submit_with(alloc, window, batch, &roots, words),
+        None => Ok(false),
+    }
+}
+
 fn submit(
     alloc: Global,
     window: &mut Window,
     words: &mut SplitWhitespace,
 ) -> Result<bool, NoMemory> {
-    let geometry = window.geometry();
-    let batch = batch(alloc, words)?;
-    let touched = touched_regions(alloc, &geometry, &batch)?;
-    let roots = roots_for(alloc, window.submitted() % 16 + 1, &touched)?;
-    if window.is_full()
-        || window.submitted() == u64::MAX
-        || batch.len() > 64
-        || roots.len() != touched.len()
-        || !are_in(&geometry, batch.as_slice())
-    {
-        return Ok(false);
+    match batch(alloc, words) {
+        Ok(batch) => submit_batch(alloc, window, &batch, words),
+        Err(NoMemory) => Err(NoMemory),
     }
-    let parts = window.submit(alloc, &batch, &roots)?;
-    are_spelled(alloc, parts.as_slice(), words)
 }
 
 // ---- claims, acknowledgements, barriers
@@ -239,17 +295,21 @@ fn holds(alloc: Global, window: &mut Window, line: &str) -> Result<bool, NoMemor
     }
 }
 
-/// The first line of the text that doesn't hold.
-fn wrong_line<'a>(alloc: Global, text: &'a str) -> Result<Option<&'a str>, NoMemory> {
-    let Some(mut window) = window(alloc)? else {
-        return Ok(Some("window"));
-    };
-    'lines: for line in text.lines() {
-        if !holds(alloc, &mut window, line)? {
-            return Ok(Some(line));
+fn wrong_in<'a>(alloc: Global, window: &mut Window, text: &'a str) -> Option<&'a str> {
+    for line in text.lines() {
+        if !matches!(holds(alloc, window, line), Ok(true)) {
+            return Some(line);
         }
     }
-    Ok(None)
+    None
+}
+
+/// The first line of the text that doesn't hold.
+fn wrong_line<'a>(alloc: Global, text: &'a str) -> Option<&'a str> {
+    match window(alloc) {
+        Some(mut window) => wrong_in(alloc, &mut window, text),
+        None => Some("window"),
+    }
 }
 
 /// Three regions of four, out of order, one place twice; then two regions, then one place three times.
@@ -399,9 +459,8 @@ fn sixteen() -> &'static str {
 }
 
 #[test]
-fn windows(rt: HostRuntime) -> Result<(), Fail> {
+fn windows(rt: HostRuntime) {
     for text in [parts(), acknowledgements(), barriers(), sixteen()] {
-        assert_eq!(rt; wrong_line(rt.alloc(), text)?, None);
+        assert_eq!(rt; wrong_line(rt.alloc(), text), None);
     }
-    Ok(())
 }

@@ -26,35 +26,62 @@ const COUNT: u32 = 100_000;
 
 const TURNS: u32 = 100;
 
+/// The bytes of the message that these bytes are; none where they are no message, or memory is wanting.
+fn recoded(alloc: Global, message: &[u8]) -> Option<Vec<u8>> {
+    match decode(alloc, message) {
+        Ok(decoded) => encode(alloc, &decoded).ok(),
+        Err(_) => None,
+    }
+}
+
+fn has_length(bytes: Option<Vec<u8>>, size: usize) -> bool {
+    match bytes {
+        Some(bytes) => bytes.len() == size,
+        None => false,
+    }
+}
+
+fn has_bytes(bytes: Option<Vec<u8>>, message: &[u8]) -> bool {
+    match bytes {
+        Some(bytes) => bytes.as_slice() == message,
+        None => false,
+    }
+}
+
 /// How many of the messages are decoded, and encoded at the same length.
-fn pass(alloc: Global, bytes: &[u8], size: usize) -> Result<u32, NoMemory>
+fn pass(alloc: Global, bytes: &[u8], size: usize) -> u32
     requires { 0 < size }
 {
     let mut done: u32 = 0;
     for message in bytes.chunks_exact(size) {
-        if let Ok(decoded) = decode(alloc, message) {
-            let encoded = encode(alloc, &decoded)?;
-            if encoded.len() == size {
-                done = done.saturating_add(1);
-            }
+        if has_length(recoded(alloc, message), size) {
+            done = done.saturating_add(1);
         }
     }
-    Ok(done)
+    done
 }
 
 /// How many of the messages come out as they went in.
-fn again(alloc: Global, bytes: &[u8], size: usize) -> Result<u32, NoMemory>
+fn again(alloc: Global, bytes: &[u8], size: usize) -> u32
     requires { 0 < size }
 {
     let mut same: u32 = 0;
     for message in bytes.chunks_exact(size) {
-        if let Ok(decoded) = decode(alloc, message) {
-            if encode(alloc, &decoded)?.as_slice() == message {
-                same = same.saturating_add(1);
-            }
+        if has_bytes(recoded(alloc, message), message) {
+            same = same.saturating_add(1);
         }
     }
-    Ok(same)
+    same
+}
+
+/// Prints how many of a kind came out as they should, and how many bytes each has.
+fn tell_count(rt: &impl Runtime, name: &str, good: u32, what: &str, size: usize) -> io::Result<()> {
+    println!(rt; "{name}: {good} of {COUNT} with {what}{size} bytes")
+}
+
+/// Prints to standard error how long so many took.
+fn tell_time(rt: &impl Runtime, name: &str, done: u32, micros: u128) -> io::Result<()> {
+    eprintln!(rt; "{name}: {done} in {micros} us")
 }
 
 /// Runs over the messages of one kind, and prints how many come out as they went in and how long one run took.
@@ -70,9 +97,9 @@ fn measure(
     let start = Instant::now(rt)?;
     let done = pass(alloc, bytes, size);
     let micros = start.elapsed(rt)?.as_micros();
-    let same = again(alloc, bytes, size).unwrap_or(0);
-    println!(rt; "{name}: {same} of {COUNT} with {size} bytes")?;
-    eprintln!(rt; "{name}: {} in {micros} us", done.unwrap_or(0))
+    let same = again(alloc, bytes, size);
+    tell_count(rt, name, same, "", size)?;
+    tell_time(rt, name, done, micros)
 }
 
 /// How many microseconds it takes to seal a record under each of these numbers, and to hash as many texts of the payload's
@@ -125,17 +152,36 @@ fn seal_and_hash(rt: &impl Runtime, alloc: Global, key: &HmacKey) -> io::Result<
     Ok((sealing, hashing, mixed))
 }
 
+/// How many bytes the record's payload has; 0 where memory is wanting.
+fn payload_size(alloc: Global, rec: &Record) -> usize
+    requires { IsRecord rec.now }
+{
+    match payload(alloc, rec) {
+        Ok(bytes) => bytes.len(),
+        Err(_) => 0,
+    }
+}
+
 /// Prints how many records are genuine once they are sealed, how long sealing took, and how long hashing.
-fn measure_seals(rt: &impl Runtime, alloc: Global, mut rec: Record) -> io::Result<()>
-    requires { IsRecord rec }
+fn measure_seals(rt: &impl Runtime, alloc: Global, rec: &mut Record) -> io::Result<()>
+    requires { IsRecord rec.old }
 {
     let key = HmacKey::new(b"Jefe");
     let (sealing, hashing, mixed) = seal_and_hash(rt, alloc, &key)?;
-    let size = payload(alloc, &rec).map_or(0, |bytes| bytes.len());
-    let good = sealed_well(alloc, &key, &mut rec, COUNT).unwrap_or(0);
-    println!(rt; "seals: {good} of {COUNT} with payloads of {size} bytes")?;
-    eprintln!(rt; "seals: {COUNT} in {sealing} us, mixed to {mixed}")?;
-    eprintln!(rt; "hashes: {COUNT} in {hashing} us")
+    let size = payload_size(alloc, rec);
+    let good = sealed_well(alloc, &key, rec, COUNT).unwrap_or(0);
+    tell_count(rt, "seals", good, "payloads of ", size)?;
+    tell_time(rt, "seals", COUNT, sealing)?;
+    tell_time(rt, "hashes", COUNT, hashing)?;
+    eprintln!(rt; "mixed to {mixed}")
+}
+
+/// The same for a record of its own, if there is memory for one.
+fn time_seals(rt: &impl Runtime, alloc: Global) -> io::Result<()> {
+    match part(alloc) {
+        Ok(mut rec) => measure_seals(rt, alloc, &mut rec),
+        Err(_) => Ok(()),
+    }
 }
 
 fn main(rt: HostRuntime) -> io::Result<()> {
@@ -145,8 +191,5 @@ fn main(rt: HostRuntime) -> io::Result<()> {
     if let Ok(bytes) = votes(rt.alloc(), COUNT) {
         measure(&rt, rt.alloc(), "votes", bytes.as_slice(), VOTE_BYTES)?;
     }
-    if let Ok(rec) = part(rt.alloc()) {
-        measure_seals(&rt, rt.alloc(), rec)?;
-    }
-    Ok(())
+    time_seals(&rt, rt.alloc())
 }

@@ -1,28 +1,26 @@
 -- Along the run: what nodes hold has the right blocks.
-use Rattle.std.proofs.Common.{◌≡◌, ◌⊎◌, ◌∙◌, ℕ, ◌+◌, ◌<◌, ◌≤◌, Bool, true, false, ◌==◌, ◌&&◌, if◌then◌else◌, List, [], ◌∷◌, map, Some, Ok, inl, inr, refl, ap, sym, subst, arith}
+use Rattle.std.proofs.Common.{◌≡◌, ◌∙◌, ℕ, ◌+◌, Bool, true, false, ◌==◌, if◌then◌else◌, List, [], ◌∷◌, inl, inr, refl, ap, sym, subst, arith}
 use Rattle.std.proofs.lemmas.Bool.{false≢true, cases_lt, eq-eqb}
 use Rattle.salus_types.specs.Volume.{Shape}
 use Rattle.salus_types.specs.declared.names.NodeName.{NodeName}
 use Rattle.salus_types.specs.declared.names.Sender.{Sender}
 use Rattle.salus_types.specs.declared.names.Sender.TheVariants as sender
 use Rattle.salus_types.specs.declared.records.Held.{Held}
-use Rattle.salus_message.specs.declared.wire.Message.TheVariants as message
-use Rattle.salus_message.specs.Reading.{message_at}
 use Rattle.merkle_region.specs.Tree.{IsAmong, NoTwoCollide}
-use Rattle.schedule_text.specs.Limits.{IsOfVolume, IsPartyOfVolume, IsWithinLimits}
+use Rattle.schedule_text.specs.Limits.{IsOfVolume, IsWithinLimits}
 use Rattle.schedule_text.specs.declared.schedule.Volume.{Volume}
 use Rattle.schedule_text.specs.declared.schedule.Event.{Event}
 use Rattle.salus_model.specs.declared.trace.TraceStep.{TraceStep}
 use Rattle.volume_model.specs.Groups.{is_client, same_node, same_party}
 use Rattle.salus_model.specs.Judge.{Judge, first_session, start_judge}
-use Rattle.salus_model.specs.Following.{Posted, posted_at}
+use Rattle.salus_model.specs.Following.{Posted}
 use Rattle.salus_model.specs.Guarding.{is_lied_for}
 use Rattle.salus_model.specs.Hearing.{News, Silence, Past, news_in, news_of, judge_of}
-use Rattle.salus_model.specs.Due.{past_of, history_from}
+use Rattle.salus_model.specs.Due.{past_of}
 use Rattle.client_rules.specs.State as state
 use Rattle.client_rules.specs.Rules.{told, client_step, new_client}
 use Rattle.run_rules.specs.Knowing.{KnownNode, outs_to, known_to}
-use Rattle.run_rules.specs.Running.{formatted, posted_by, addresses, after, known_of, IsNodeStep, IsStepOf}
+use Rattle.run_rules.specs.Running.{formatted, posted_by, addresses, after, IsNodeStep, IsStepOf}
 use Rattle.run_rules.specs.Serving as serving
 use Rattle.run_rules.specs.Serving.{IsClientStep}
 use Rattle.list_lemmas.proofs.Lists.{among_between}
@@ -38,12 +36,9 @@ use Rattle.law_records.proofs.Counted.{both_true}
 use Rattle.law_matched.proofs.Numbering.{node_is}
 use Rattle.law_lemmas.proofs.Growing.{Grows}
 use Rattle.law_lines.specs.Ready.{event_after, session_after}
-use Rattle.law_posts.proofs.Along.{top_after}
 use Rattle.law_phases.proofs.Going.{lines_grow}
 use Rattle.law_kept.proofs.Along.{IsAlong, IsGiven, stepped, row, before}
-use Rattle.law_kept.proofs.Next.{along_then}
 use Rattle.law_kept.proofs.Starting.{known_first}
-use Rattle.law_kept.proofs.Whole.{AreGiven, given_here, given_rest}
 use Rattle.law_covered.proofs.Right.{IsRightBase, HasRight, HoldsRight, StagesRight, holds_more, stages_more}
 use Rattle.law_covered.proofs.RightNode.{right_next}
 use Rattle.law_covered.proofs.RightClient.{KeepsRight, kept_more, stages_right}
@@ -138,28 +133,8 @@ module _ (volume : Volume) (events : List Event) (posts : List Posted) (limits :
     by_party sender.Client is = client_then is
     by_party (sender.Node name) is = node_then name is
 
-    right_then : AreRight (p ∷ history) (client_step volume posts c t).client (λ name. after shape posts name (known name) t) t.sent
+    pub right_then : AreRight (p ∷ history) (client_step volume posts c t).client (λ name. after shape posts name (known name) t) t.sent
     right_then = let one : StagesThen = by_party t.party refl in record { nodes = nodes_then; stages = one.stages; keeps = one.keeps }
-
-  -- at the end of some steps
-  pub record Ends (history : List Past) (known : NodeName → KnownNode) : Type 0 where
-    pub n : ℕ
-    pub top : ℕ
-    pub c : state.Client
-    pub sent : ℕ
-    pub along : IsAlong volume events posts limits strings none history n top c known sent
-    pub right : AreRight history c known sent
-
-  pub ends_from : (steps : List TraceStep) (history : List Past) (n top : ℕ) (c : state.Client) (known : NodeName → KnownNode) (sent : ℕ)
-      → IsAlong volume events posts limits strings none history n top c known sent → AreRight history c known sent → AreGiven volume events posts limits strings none unlied history n top c known sent steps
-      → Ends (history_from volume events posts history steps) (λ name. known_of shape posts name (known name) steps)
-  unfolding history_from known_of
-  ends_from [] history n top c known sent a right given = record { n = n; top = top; c = c; sent = sent; along = a; right = right }
-  ends_from (t ∷ steps) history n top c known sent a right given =
-      let here : IsGiven volume events posts limits strings none history n top c known sent t = given_here volume events posts limits strings none unlied history n top c known sent t steps a given in
-      ends_from steps (past_of volume events posts history t ∷ history) (event_after n t.event (news_of posts t)) (top_after top (news_of posts t)) (client_step volume posts c t).client
-      (λ name. after shape posts name (known name) t) t.sent (along_then volume events posts limits strings none unlied history n top c known sent a t here)
-      (right_then history n top c known sent a t here right) (given_rest volume events posts limits strings none unlied history n top c known sent t steps given)
 
 -- ---- at first
 

@@ -2,5 +2,9 @@ pub mod Right
 pub mod RightNode
 pub mod RightClient
 pub mod Along
+pub mod Low
+pub mod Reached
+pub mod Staying
+pub mod Claimed
 pub mod Covering
 pub mod Whole

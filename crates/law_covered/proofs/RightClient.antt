@@ -1,17 +1,15 @@
 -- What the client stages has the right blocks, or none.
-use Rattle.std.proofs.Common.{◌≡◌, ◌⊎◌, ℕ, ◌+◌, ◌^◌, ◌<◌, ◌≤◌, ◌∙◌, Bool, true, false, ◌==◌, ◌&&◌, not, nat_lt, if◌then◌else◌, cond, List, [], ◌∷◌, ◌++◌, length, take, bytes_eq, Option, None, Some, Result, Ok, Err, inl, inr, refl, ap, sym, subst, arith, eqb-true}
-use Rattle.std.specs.Prelude.{filter, flat_map}
+use Rattle.std.proofs.Common.{◌≡◌, ◌⊎◌, ℕ, ◌^◌, ◌<◌, ◌≤◌, ◌∙◌, true, ◌==◌, ◌&&◌, not, nat_lt, if◌then◌else◌, List, [], ◌∷◌, ◌++◌, length, bytes_eq, Option, None, Some, Result, Ok, Err, inl, inr, refl, ap, sym, subst, arith, eqb-true}
+use Rattle.std.specs.Prelude.{flat_map}
 use Rattle.std.specs.List.{AllByRecursion}
 use Rattle.std.proofs.lemmas.Bool.{and_parts, cond-true}
 use Rattle.std.proofs.lemmas.List.{take_all}
 use Rattle.std.proofs.lemmas.Slice.Eq.{bytes_eq-Decides}
 use Rattle.salus_types.specs.Volume.{Shape, regions, region_blocks}
 use Rattle.salus_types.specs.declared.names.NodeName.{NodeName}
-use Rattle.salus_types.specs.declared.names.Sender.{Sender}
 use Rattle.salus_types.specs.declared.names.Sender.TheVariants as sender
 use Rattle.salus_types.specs.declared.records.Header.{Header}
 use Rattle.salus_types.specs.declared.records.Record.{Record}
-use Rattle.salus_types.specs.declared.records.Base.{Base}
 use Rattle.salus_message.specs.declared.replies.Answer.{Answer}
 use Rattle.salus_message.specs.declared.carried.Stage.{Stage}
 use Rattle.salus_message.specs.declared.carried.Dumped.{Dumped}
@@ -29,14 +27,14 @@ use Rattle.printed_lines.specs.declared.line.RequestRefusal.{RequestRefusal}
 use Rattle.salus_model.specs.declared.trace.Request.{Request}
 use Rattle.salus_model.specs.declared.trace.Request.TheVariants as request
 use Rattle.salus_model.specs.declared.trace.TraceStep.{TraceStep}
-use Rattle.merkle_region.specs.Tree.{root_of, tree_strings, IsAmong, NoTwoCollide}
+use Rattle.merkle_region.specs.Tree.{root_of, tree_strings, IsAmong}
 use Rattle.merkle_region.proofs.Membership.{among_left, among_right}
 use Rattle.holding_model.specs.Fitting.{has_shape}
 use Rattle.volume_model.specs.Contents.{all_regions, region_of, region_root, blocks_in, fold_batches}
-use Rattle.volume_model.specs.Parts.{Session, contents_after}
+use Rattle.volume_model.specs.Parts.{contents_after}
 use Rattle.volume_model.specs.Groups.{is_client, group_of, all_nodes}
 use Rattle.volume_model.specs.Recovering.{choice_of, recovered}
-use Rattle.salus_model.specs.Judge.{Judge, known_at, array, last_number}
+use Rattle.salus_model.specs.Judge.{Judge, known_at, last_number}
 use Rattle.salus_model.specs.Following.{Posted, posted_at}
 use Rattle.salus_model.specs.Due.{past_of}
 use Rattle.run_rules.specs.Serving.{IsClientStep}
@@ -44,18 +42,18 @@ use Rattle.salus_model.specs.Hearing.{News, Asks, Says, Crashes, Silence, Past, 
 use Rattle.salus_model.specs.Waiting.{Taken, Question, questions}
 use Rattle.salus_model.specs.Answering.{Verdict, Stale, Good, Struck, is_fitting, all_struck}
 use Rattle.salus_model.specs.Opening.{is_fetched}
-use Rattle.salus_model.specs.Seen.{known_strings, news_strings, blocks_strings}
+use Rattle.salus_model.specs.Seen.{known_strings, news_strings}
 use Rattle.client_rules.specs.State.{Open, Unacked, Serving, Gathering, Fetching, Beginning, Letter, Client, Closed, Serves, Gathers, Fetches, Stages, Switches, Told, ignored, to_all}
 use Rattle.client_rules.specs.Tables.{closed_at, struck, struck_at, worth, open_at, ask_of, asks}
 use Rattle.client_rules.specs.Submitting.{batch_asked, next_parts, part_letters, with_batch}
-use Rattle.client_rules.specs.Serving.{refusal_here, leaves, fetches, joined, accepted, decided, requested_here, read_ended, read_judged, read_answered, submits, head_known, head_faulted, head_judged, head_answered, answered_here, acks, claimed, acked_told, committed_here, ticked_here}
+use Rattle.client_rules.specs.Serving.{refusal_here, leaves, joined, accepted, decided, requested_here, read_ended, read_judged, read_answered, submits, head_known, head_faulted, head_judged, head_answered, answered_here, acks, claimed, acked_told, committed_here, ticked_here}
 use Rattle.client_rules.specs.Opening.{has_answered, not_answered, with_name, all_answered, new_serving, base_record, stage_letters, staged_from, restarted, with_reply_of, joined_blocks, chosen, gathered_all, gathered_here, fetched_blocks, dumped_here, staged_by, staged_here, switched_by, switched_here}
 use Rattle.client_rules.specs.Rules.{requested_away, requested, received, told, told_serving, told_gathering, told_fetching, told_staging, told_switching, ticked, is_tick, client_step, posted_letter}
 use Rattle.list_lemmas.proofs.Each.{either_way, all_both, all_filter, all_flat, all_map, all_each, all_then, flat_of_all}
 use Rattle.list_lemmas.proofs.Members.{all_among, among_all, among_map, among_range, among_flat_map-in}
 use Rattle.list_lemmas.proofs.Lists.{among_between}
 use Rattle.list_lemmas.proofs.SameRoots.{same_roots}
-use Rattle.list_lemmas.proofs.Tests.{by_test, and_left, and_right}
+use Rattle.list_lemmas.proofs.Tests.{by_test, and_right}
 use Rattle.law_lemmas.proofs.Regional.{length-blocks_in}
 use Rattle.law_lemmas.proofs.Numbered.{IsSized, length-contents_after}
 use Rattle.law_lemmas.proofs.Owned.{known_among}

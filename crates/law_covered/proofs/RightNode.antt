@@ -1,16 +1,16 @@
 -- A node's step keeps the blocks of its bases right: a base that is staged has those that came with it, or the view's, which
 -- have the root that its record names; and a fold goes on from the base by the parts of the session.
-use Rattle.std.proofs.Common.{◌≡◌, ◌∙◌, ◌⊎◌, inl, inr, ⊎_elim, ℕ, ◌+◌, ◌-◌, ◌^◌, ◌<◌, ◌≤◌, ◌==◌, ◌&&◌, ◌||◌, nat_le, nat_lt, Bool, true, false, if◌then◌else◌, List, [], ◌∷◌, ◌++◌, length, map, Option, None, Some, Result, Ok, Err, refl, sym, ap, subst, arith}
+use Rattle.std.proofs.Common.{◌≡◌, ◌∙◌, ◌⊎◌, inl, ⊎_elim, ℕ, ◌+◌, ◌-◌, ◌<◌, ◌≤◌, ◌==◌, ◌&&◌, nat_le, nat_lt, Bool, true, false, if◌then◌else◌, List, [], ◌∷◌, ◌++◌, length, map, Option, None, Some, Result, Ok, Err, refl, sym, ap, subst, arith}
 use Rattle.std.specs.Prelude.{filter, option_map, bytes_eq}
 use Rattle.std.specs.Option.{option_map_or}
 use Rattle.std.specs.List.{AllByRecursion}
 use Rattle.std.proofs.lemmas.Option.{same_Some}
 use Rattle.std.proofs.lemmas.Slice.Eq.{bytes_eq-Decides}
-use Rattle.salus_types.specs.Volume.{Shape, regions, region_blocks}
+use Rattle.salus_types.specs.Volume.{Shape, regions}
 use Rattle.salus_types.specs.declared.records.Record.{Record}
 use Rattle.salus_types.specs.declared.records.Base.{Base}
 use Rattle.salus_types.specs.declared.records.Held.{Held}
-use Rattle.merkle_region.specs.Tree.{root_of, tree_strings, IsAmong, NoTwoCollide}
+use Rattle.merkle_region.specs.Tree.{root_of, IsAmong, NoTwoCollide}
 use Rattle.merkle_region.proofs.Membership.{among_either}
 use Rattle.holding_model.specs.Fitting.{blocks_after, blocks_written, has_shape}
 use Rattle.holding_model.specs.Changing.{Change, AddsPart, AddsBase, SwitchesTo, FoldsTo, is_folded, is_open_base, base_after_all, folded, changed, after_changes, contents_through}
@@ -18,7 +18,7 @@ use Rattle.volume_model.specs.Contents.{blocks_in, apply}
 use Rattle.volume_model.specs.Parts.{Session, contents_after, number_of, batch_at, writes_in, part_of}
 use Rattle.salus_model.specs.Judge.{Judge, known_at}
 use Rattle.replica_rules.specs.Views.{View, view_of_base, view_after, view_root}
-use Rattle.list_lemmas.proofs.Members.{among_all, all_among, among_map, among_filter, among_filter-in}
+use Rattle.list_lemmas.proofs.Members.{among_all, all_among, among_map, among_filter}
 use Rattle.list_lemmas.proofs.SameRoots.{same_roots}
 use Rattle.law_lemmas.proofs.Numbered.{IsSized, IsNumbered, numbered, contents_after-more, length-contents_after}
 use Rattle.law_lemmas.proofs.Regional.{part_written, length-blocks_in}
@@ -60,11 +60,11 @@ use Rattle.replica_rules.proofs.Keeping.{OfHeld, OfInput, planned_of, contents_t
 use Rattle.run_rules.specs.Knowing.{KnownNode, speaking, silenced, after_handling, after_input, input_of_post, input_of, after_handed, reloaded, known_to, IsLoadOf, LoadsRight}
 use Rattle.run_rules.specs.Running.{IsNodeStep}
 use Rattle.list_lemmas.proofs.Each.{either_way, any_way, all_map, all_each, all_then, all_filter, OfSome}
-use Rattle.list_lemmas.proofs.Tests.{and_left, and_right, way_with}
+use Rattle.list_lemmas.proofs.Tests.{and_right, way_with}
 use Rattle.law_lemmas.proofs.Owned.{IsTold, told, known_among}
 use Rattle.law_history.proofs.Seeing.{has_contents}
 use Rattle.law_history.specs.Handing.{records_posted}
-use Rattle.salus_model.specs.Forgery.{IsTagged, IsPartOf, IsBaseOf, records_of}
+use Rattle.salus_model.specs.Forgery.{IsTagged, IsPartOf, records_of}
 use Rattle.law_handed.proofs.Origins.{Stands}
 use Rattle.law_prefix.specs.World.{Client, Vote, Claim, World, Volume as AbstractVolume}
 use Rattle.kept_model.specs.Nodes.{node_of, volume_as}

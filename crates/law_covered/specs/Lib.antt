@@ -1,1 +1,2 @@
--- This crate has no definitions of its own.
+pub mod Claiming
+pub mod Coverage

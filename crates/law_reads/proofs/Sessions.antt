@@ -10,11 +10,13 @@ use Rattle.volume_model.specs.Contents.{apply, blocks_in, region_root}
 use Rattle.volume_model.specs.Parts.{Session, contents_after, touches, batch_at, number_of, writes_in, part_of}
 use Rattle.salus_model.specs.Forgery.{IsPartOf}
 use Rattle.replica_rules.specs.Views.{View, view_after, view_root}
+use Rattle.replica_rules.specs.Replicas.{Replica}
 use Rattle.list_lemmas.proofs.Tests.{by_bool}
 use Rattle.law_lemmas.proofs.Numbered.{IsSized, length-contents_after, contents_after-more, number_of-base, number_of-more, numbered}
 use Rattle.law_lemmas.proofs.Regional.{part_written}
-use Rattle.law_answers.specs.Turning.{IsChain}
-use Rattle.law_reads.specs.Chained.{IsViewOf}
+use Rattle.law_answers.specs.Turning.{IsChain, IsInTurn, HasCome, IsLinked}
+use Rattle.law_answers.proofs.Reached.{all_reached}
+use Rattle.law_reads.specs.Chained.{IsViewOf, IsLastView}
 
 module _ (shape : Shape) (key : List ℕ) (known : Session) (sized : IsSized shape known) (g : ℕ) (inside : g < regions shape) where
   abbrev N : ℕ → ℕ
@@ -198,3 +200,53 @@ module _ (shape : Shape) (key : List ℕ) (known : Session) (sized : IsSized sha
 
       eq-bytes : (a b : List ℕ) → a ≡ b → bytes_eq a b ≡ true
       eq-bytes a b is = (bytes_eq-Decides a b).1 is
+
+  -- ---- once every part has come
+
+  number_above : (view : View) → IsViewOf shape known g view → known.base ≤ view.number
+  number_above view v =
+      let above : known.base ≤ N v.x = (numbered shape known sized g v.x inside v.above v.within).above in
+      let number : view.number ≡ N v.x = v.number in
+      omega (arith, above, number)
+
+  -- what a part goes on from is the base, or a part
+  parts_linked : (x : ℕ) → known.base ≤ x → IsLinked (IsPartOf shape key known g) x
+  parts_linked x above rec part up =
+      let p = says rec part in
+      let own : known.base < part.s = part.own in
+      let within : part.s ≤ length known.list = part.within in
+      let previous : rec.header.previous ≡ N (part.s - 1) = p.previous in
+      let at : N (part.s - 1) ≤ part.s - 1 = low (part.s - 1) (omega (arith, own)) (omega (arith, own, within)) in
+      ⊎_elim (λ (base : N (part.s - 1) ≡ known.base). absurd (omega (arith, base, previous, up, above)))
+      (λ (touch : (known.base < N (part.s - 1)) × (touched (N (part.s - 1)) ≡ true)). (
+        part_of shape key known (N (part.s - 1)) g,
+        record { s = N (part.s - 1); own = touch.0; within = omega (arith, at, within); inside = inside; touched = touch.1; is = refl },
+        (part_says (N (part.s - 1))).seq ∙ sym previous,
+      ))
+      (is_touch (part.s - 1) (omega (arith, own)) (omega (arith, own, within)))
+
+  -- The law: the view is that after the session's last batch.
+  pub last_reached : (r : Replica) → IsInTurn (IsPartOf shape key known g) (IsViewOf shape known g) r → ((rec : Record) → IsPartOf shape key known g rec → HasCome rec r)
+      → IsLastView shape known g r.view
+  last_reached r turn come =
+      let v : IsViewOf shape known g r.view = turn.view in
+      let last : ℕ = length known.list in
+      let number : r.view.number ≡ N v.x = v.number in
+      let up : N v.x ≤ N last = never_falls v.x last v.above v.within (omega arith) in
+      let above : known.base ≤ r.view.number = number_above r.view v in
+      let all = all_reached shape (IsPartOf shape key known g) (IsViewOf shape known g) session_chain r turn (parts_linked r.view.number above) come in
+      let down : N last ≤ r.view.number =
+      ⊎_elim (λ (base : N last ≡ known.base). omega (arith, base, above))
+      (λ (touch : (known.base < N last) × (touched (N last) ≡ true)).
+      let at : N last ≤ last = low last sized.begun (omega arith) in
+      let rec : Record = part_of shape key known (N last) g in
+      let seq : rec.header.seq ≡ N last = (part_says (N last)).seq in
+      let reached : rec.header.seq ≤ r.view.number = all rec (record { s = N last; own = touch.0; within = at; inside = inside; touched = touch.1; is = refl }) in
+      omega (arith, seq, reached))
+      (is_touch last sized.begun (omega arith)) in
+      let same : N v.x ≡ N last = omega (arith, up, down, number) in
+      record {
+        number = number ∙ same;
+        blocks = v.blocks ∙ (sym (numbered shape known sized g v.x inside v.above v.within).blocks
+            ∙ (ap (λ (n : ℕ). blocks_in shape (contents_after known n) g) same ∙ (numbered shape known sized g last inside sized.begun (omega arith)).blocks));
+      }

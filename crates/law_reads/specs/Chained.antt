@@ -12,3 +12,8 @@ pub record IsViewOf (shape : Shape) (known : Session) (g : ℕ) (view : View) : 
   pub within : x ≤ length known.list
   pub number : view.number ≡ number_of shape known x g
   pub blocks : view.blocks ≡ blocks_in shape (contents_after known x) g
+
+-- the view after its last batch
+pub record IsLastView (shape : Shape) (known : Session) (g : ℕ) (view : View) : Type 0 where
+  pub number : view.number ≡ number_of shape known (length known.list) g
+  pub blocks : view.blocks ≡ blocks_in shape (contents_after known (length known.list)) g

@@ -5,6 +5,7 @@
 ghost use Rattle.std.specs.Prelude.{◌≡◌, ◌⊎◌, ◌<◌, ◌≤◌, ◌^◌, ℕ, true, false, List, length};
 ghost use Rattle.salus_types.specs.Volume.{Shape, regions, blocks};
 ghost use Rattle.salus_types.specs.declared.names.NodeName.{NodeName};
+ghost use Rattle.salus_types.specs.declared.records.Record.{Record};
 ghost use Rattle.salus_types.specs.declared.names.Sender.TheVariants as sender;
 ghost use Rattle.salus_message.specs.declared.replies.Answer.{Answer};
 ghost use Rattle.salus_message.specs.declared.wire.Message.TheVariants as message;
@@ -22,13 +23,14 @@ ghost use Rattle.salus_model.specs.Seen.{NoCollision};
 ghost use Rattle.salus_model.specs.Complete.{is_crash, ReadsBesideLies};
 ghost use Rattle.client_rules.specs.State.{Open, Serving, Serves};
 ghost use Rattle.client_rules.specs.Rules.{told};
+ghost use Rattle.replica_rules.specs.Replicas.{Replica};
 ghost use Rattle.run_rules.specs.Calm.{Calm};
 ghost use Rattle.run_rules.specs.Rooms.{rooms_of};
 ghost use Rattle.run_rules.specs.Run.{IsByRules, formatted_first};
 ghost use Rattle.run_rules.specs.Running.{formatted};
 ghost use Rattle.law_reads.specs.Reading.{UnstruckAt, HaveOwnNumbers, StaysOpen, GivesBlock, counts, IsFair, IsAskedOf, OpensAsked};
-ghost use Rattle.law_answers.specs.Turning.{IsChain};
-ghost use Rattle.law_reads.specs.Chained.{IsViewOf};
+ghost use Rattle.law_answers.specs.Turning.{IsChain, IsInTurn, HasCome};
+ghost use Rattle.law_reads.specs.Chained.{IsViewOf, IsLastView};
 ghost use Rattle.law_reads.specs.Serving.{SoundServe};
 
 /// Does nothing. An open read at which replica i has no strike stays open in the session served, or a line gives its block,
@@ -52,7 +54,7 @@ pub fn open_reads_end()
 /// Does nothing: its clause is the law. In a run that follows a schedule in its limits, by the rules of nodes and client from a
 /// formatted volume on, in which calls fail only where they may, where no two different strings seen share a digest and no tag
 /// is forged, reads end beside lies: if each sound server serves. That is: while a read of its region is open, it has the
-/// session served in memory, what it answers counts and isn't struck, and the read's own asks alone have its number; and once
+/// session served in memory and stays in it, its answers aren't struck, and the read's own asks alone have its number; and once
 /// all messages between it and the client were taken, it keeps no ask of an open read.
 pub fn reads_end_beside_lies()
     ensures { (volume : Volume) (events : List Event) (posts : List Posted) (trace : List TraceStep)
@@ -66,10 +68,16 @@ pub fn reads_end_beside_lies()
         → ReadsBesideLies volume events posts (rooms_of volume.geometry posts (formatted volume)) trace }
 {}
 
-/// Does nothing: its clause is the law. The parts of a known session's batches for a region are a chain, and the views are those
-/// after its batches: so a node that takes them in their turn (`law_answers`) has the blocks of the last.
+/// Does nothing. The parts of a known session's batches for a region are a chain, and the views are those after its batches
+/// (`chain`). So a replica that is in its turn in it, and to which every part has come, has the view after the last batch
+/// (`reached`).
 pub fn session_parts_are_a_chain()
-    ensures { (shape : Shape) (key : List ℕ) (known : Session) (g : ℕ)
+    ensures chain { (shape : Shape) (key : List ℕ) (known : Session) (g : ℕ)
         → length known.origin ≡ blocks shape → known.base ≤ length known.list → g < regions shape
         → IsChain shape (IsPartOf shape key known g) (IsViewOf shape known g) }
+    ensures reached { (shape : Shape) (key : List ℕ) (known : Session) (g : ℕ) (r : Replica)
+        → length known.origin ≡ blocks shape → known.base ≤ length known.list → g < regions shape
+        → IsInTurn (IsPartOf shape key known g) (IsViewOf shape known g) r
+        → ((rec : Record) → IsPartOf shape key known g rec → HasCome rec r)
+        → IsLastView shape known g r.view }
 {}

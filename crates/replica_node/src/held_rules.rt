@@ -4,6 +4,7 @@ ghost use Rattle.std.specs.List.{list_all};
 ghost use Rattle.salus_types.specs.declared.records.Header.{Header as AnyHeader};
 ghost use Rattle.client_tag.specs.Ranges.{AreBlocks, IsBase, IsRecord};
 ghost use Rattle.holding_model.specs.Fitting.{has_shape};
+ghost use Rattle.merkle_region.specs.Tree.{root_of};
 ghost use Rattle.datanode_store.specs.Meaning.{CanBeKept};
 ghost use Rattle.replica_rules.specs.Nodes.{Memory, NodeState, base_held, stands_for};
 ghost use Rattle.replica_rules.specs.Rules.{by_gather, by_stage, says_staged, says_switched, staged, staged_again, staged_anew, staged_from, staged_whole};
@@ -17,6 +18,7 @@ use merkle_region::root;
 use open_session::{Session, is_same_record};
 use posting::encode_gathered;
 use region_view::RegionView;
+use salus_hash::Digest;
 use salus_message::{Message, Staged, Switched};
 use salus_types::{Base, Blocks, Bytes, Geometry, Header, Held, Items, NoMemory, Record, TryClone};
 use std::alloc::Global;
@@ -111,9 +113,47 @@ fn stage(alloc: Global, base: Base) -> Result<Planned, NoMemory>
     Ok(Planned::Staged { base, outs })
 }
 
+// Whether these are the blocks of the view.
+fn is_viewed(view: &RegionView, blocks: &Blocks) -> bool
+    ensures { IsTrue result → blocks.now ≡ view.now.view.blocks }
+{
+    blocks.as_slice() == view.blocks()
+}
+
+// The root of the blocks. Where they are those of the view, it is the view's, and they aren't hashed again.
+fn root_beside(geometry: &Geometry, view: &RegionView, blocks: &Blocks) -> Digest
+    requires shape { view.now.shape ≡ geometry.now }
+    requires count { length blocks.now ≡ 2 ^ geometry.now.height }
+    ensures { result ≡ root_of geometry.now.height blocks.now }
+{
+    if is_viewed(view, blocks) {
+        view.root()
+    } else {
+        root(geometry.height(), blocks.as_slice())
+    }
+}
+
+// The root of the blocks. Where they are those of the open session's view, they aren't hashed again.
+fn root_here(geometry: &Geometry, session: &Option<Session>, blocks: &Blocks) -> Digest
+    requires shape { ForSome session.now (λ kept. kept.shape ≡ geometry.now) }
+    requires count { length blocks.now ≡ 2 ^ geometry.now.height }
+    ensures { result ≡ root_of geometry.now.height blocks.now }
+{
+    match session {
+        None => root(geometry.height(), blocks.as_slice()),
+        Some(kept) => root_beside(geometry, kept.view(), blocks),
+    }
+}
+
 // A base with blocks of its own: one for each place, with the record's root.
-fn stage_whole(alloc: Global, geometry: &Geometry, base: Base) -> Result<Planned, NoMemory>
+fn stage_whole(
+    alloc: Global,
+    geometry: &Geometry,
+    session: &Option<Session>,
+    base: Base,
+) -> Result<Planned, NoMemory>
     requires ranges { IsBase base }
+    requires shape { ForSome session.now (λ kept. kept.shape ≡ geometry.now) }
     requires some { 0 < length base.blocks }
     ensures says { IfOk result (λ made. (node : NodeState) → Says node made (staged_whole geometry.now node base)) }
     ensures only { (low : ℕ) → low < base.rec.header.session → IfOk result (StagesAbove low) }
@@ -121,7 +161,7 @@ fn stage_whole(alloc: Global, geometry: &Geometry, base: Base) -> Result<Planned
     if !has_shape(geometry, base.blocks.as_slice()) {
         return ignored(alloc);
     }
-    if root(geometry.height(), base.blocks.as_slice()) != base.rec.header.root {
+    if root_here(geometry, session, &base.blocks) != base.rec.header.root {
         return ignored(alloc);
     }
     stage(alloc, base)
@@ -178,7 +218,7 @@ fn stage_anew(
     ensures only { (low : ℕ) → low < base.rec.header.session → IfOk result (StagesAbove low) }
 {
     if !base.blocks.is_empty() {
-        return stage_whole(alloc, geometry, base);
+        return stage_whole(alloc, geometry, session, base);
     }
     match session {
         None => ignored(alloc),

@@ -76,14 +76,23 @@ fn vote_row(geometry: &Geometry, votes: &mut Votes, row: &[u8]) -> bool
     }
 }
 
-fn votes_hold(alloc: Global, geometry: &Geometry, text: &[u8]) -> Result<bool, NoMemory> {
-    let mut votes = Votes::new(alloc, geometry)?;
+fn votes_hold(geometry: &Geometry, votes: &mut Votes, text: &[u8]) -> bool
+    requires { votes.old.shape ≡ geometry.now }
+{
     'rows: for row in text.chunks(7) {
-        if !vote_row(geometry, &mut votes, row) {
-            return Ok(false);
+        if !vote_row(geometry, votes, row) {
+            return false;
         }
     }
-    Ok(true)
+    true
+}
+
+/// Whether all rows of the text hold of votes of which none is taken yet.
+fn are_votes(alloc: Global, geometry: &Geometry, text: &[u8]) -> bool {
+    match Votes::new(alloc, geometry) {
+        Ok(mut votes) => votes_hold(geometry, &mut votes, text),
+        Err(NoMemory) => false,
+    }
 }
 
 // ---- claims from 4 on: `t` takes one, `a` asks whether all of a region claim a number, `k` what is committed
@@ -108,14 +117,22 @@ fn claim_row(geometry: &Geometry, claims: &mut Claims, row: &[u8]) -> bool
     }
 }
 
-fn claims_hold(alloc: Global, geometry: &Geometry, text: &[u8]) -> Result<bool, NoMemory> {
-    let mut claims = Claims::new(alloc, geometry, 4)?;
+fn claims_hold(geometry: &Geometry, claims: &mut Claims, text: &[u8]) -> bool
+    requires { claims.old.shape ≡ geometry.now }
+{
     'rows: for row in text.chunks(7) {
-        if !claim_row(geometry, &mut claims, row) {
-            return Ok(false);
+        if !claim_row(geometry, claims, row) {
+            return false;
         }
     }
-    Ok(true)
+    true
+}
+
+fn are_claims(alloc: Global, geometry: &Geometry, text: &[u8]) -> bool {
+    match Claims::new(alloc, geometry, 4) {
+        Ok(mut claims) => claims_hold(geometry, &mut claims, text),
+        Err(NoMemory) => false,
+    }
 }
 
 // ---- the leader of the first region: `h` notes a header by its regions, the leader before and its number, `v` and `c`
@@ -172,38 +189,48 @@ fn told_of_node(geometry: &Geometry, leader: &mut Leader, row: &[u8]) -> bool
     }
 }
 
-fn leader_row(
-    alloc: Global,
-    geometry: &Geometry,
-    leader: &mut Leader,
-    row: &[u8],
-) -> Result<bool, NoMemory>
+/// A row that notes a header.
+fn notes(alloc: Global, leader: &mut Leader, which: u8, before: u8, seq: u64) -> bool
+    ensures { leader.new.shape ≡ leader.old.shape }
+{
+    match header(alloc, which, before, seq) {
+        Ok(made) => {
+            leader.hold(&made);
+            true
+        }
+        Err(NoMemory) => false,
+    }
+}
+
+fn leader_row(alloc: Global, geometry: &Geometry, leader: &mut Leader, row: &[u8]) -> bool
     requires { leader.old.shape ≡ geometry.now }
     ensures { leader.new.shape ≡ geometry.now }
 {
     match row {
         [b'h', which, before, tens, ones, _, _] => {
-            leader.hold(&header(alloc, *which, *before, number(*tens, *ones))?);
-            Ok(true)
+            notes(alloc, leader, *which, *before, number(*tens, *ones))
         }
-        [b'v' | b'c', ..] => Ok(told_of_node(geometry, leader, row)),
-        _ => Ok(is_answered(leader, row)),
+        [b'v' | b'c', ..] => told_of_node(geometry, leader, row),
+        _ => is_answered(leader, row),
     }
 }
 
-fn leader_holds(
-    alloc: Global,
-    geometry: &Geometry,
-    base: u64,
-    text: &[u8],
-) -> Result<bool, NoMemory> {
-    let mut leader = Leader::new(alloc, geometry, 0, base)?;
+fn leader_holds(alloc: Global, geometry: &Geometry, leader: &mut Leader, text: &[u8]) -> bool
+    requires { leader.old.shape ≡ geometry.now }
+{
     'rows: for row in text.chunks(7) {
-        if !leader_row(alloc, geometry, &mut leader, row)? {
-            return Ok(false);
+        if !leader_row(alloc, geometry, leader, row) {
+            return false;
         }
     }
-    Ok(true)
+    true
+}
+
+fn leads(alloc: Global, geometry: &Geometry, base: u64, text: &[u8]) -> bool {
+    match Leader::new(alloc, geometry, 0, base) {
+        Ok(mut leader) => leader_holds(alloc, geometry, &mut leader, text),
+        Err(NoMemory) => false,
+    }
 }
 
 /// No vote; all vote, region by region; two roots in two regions; no regions; a region that is not there.
@@ -286,7 +313,7 @@ fn leader_at_random() -> &'static [u8] {
 }
 
 #[test]
-fn votes_are_kept(rt: HostRuntime) -> Result<(), Fail> {
+fn votes_claims_and_leaders(rt: HostRuntime) {
     let geometry = four_nodes().expect(&rt, "a geometry");
     for text in [
         votes_of_all(),
@@ -294,31 +321,18 @@ fn votes_are_kept(rt: HostRuntime) -> Result<(), Fail> {
         a_second_root(),
         votes_at_random(),
     ] {
-        assert!(rt; votes_hold(rt.alloc(), &geometry, text)?);
+        assert!(rt; are_votes(rt.alloc(), &geometry, text));
     }
-    Ok(())
-}
-
-#[test]
-fn claims_are_kept(rt: HostRuntime) -> Result<(), Fail> {
-    let geometry = four_nodes().expect(&rt, "a geometry");
     for text in [claims_rise(), claims_at_random()] {
-        assert!(rt; claims_hold(rt.alloc(), &geometry, text)?);
+        assert!(rt; are_claims(rt.alloc(), &geometry, text));
     }
-    Ok(())
-}
-
-#[test]
-fn batches_are_claimed_in_order(rt: HostRuntime) -> Result<(), Fail> {
-    let geometry = four_nodes().expect(&rt, "a geometry");
     for text in [
         claims_in_order(),
         the_least_first(),
         a_number_goes_over(),
         leader_at_random(),
     ] {
-        assert!(rt; leader_holds(rt.alloc(), &geometry, 4, text)?);
+        assert!(rt; leads(rt.alloc(), &geometry, 4, text));
     }
-    assert!(rt; leader_holds(rt.alloc(), &geometry, 0, roots_must_agree())?);
-    Ok(())
+    assert!(rt; leads(rt.alloc(), &geometry, 0, roots_must_agree()));
 }

@@ -1,6 +1,6 @@
 //! Pruned trees: the example of two blocks, paths that share their upper parts, and rounds of changes against the root
 //! of the changed blocks. The digests are another program's, from the rule of RFC 6962, section 2.1.
-ghost use Rattle.std.specs.Prelude.{◌≡◌, length, IfOk};
+ghost use Rattle.std.specs.Prelude.{◌≡◌, ◌<◌, length, IfOk};
 
 use merkle_pruned::{GraftError, Pruned};
 use merkle_region::{path_of, root};
@@ -66,51 +66,70 @@ fn differs(alloc: Global, tree: &mut Pruned, held: Digest) -> Result<bool, NoMem
     Ok(both && !tree.is_open(0) && tree.root() == held)
 }
 
+/// Grafts the right path, and puts 09 in place of 05.
+fn grafts(alloc: Global, tree: &mut Pruned) -> bool
+    requires { tree.old.height ≡ 1 }
+{
+    let Ok(right) = path_beside(alloc, 6) else {
+        return false;
+    };
+    match tree.graft(alloc, 0, &leaf_digest(&[5]), &right) {
+        Ok(()) => {
+            tree.set_leaf(0, leaf_digest(&[9]));
+            tree.is_open(0) && tree.is_open(1) && is_hex(new_of_two(), &tree.root())
+        }
+        Err(_) => false,
+    }
+}
+
 /// Blocks 05 and 06: a path that leads elsewhere, the right one, and 09 in place of 05.
-fn two_blocks(alloc: Global) -> Result<bool, NoMemory> {
+fn two_blocks(alloc: Global) -> bool {
     let held = node_digest(&leaf_digest(&[5]), &leaf_digest(&[6]));
     let mut tree = Pruned::from_root(held, 1);
-    if !is_hex(held_of_two(), &held) || !differs(alloc, &mut tree, held)? {
-        return Ok(false);
-    }
-    let right = path_beside(alloc, 6)?;
-    match tree.graft(alloc, 0, &leaf_digest(&[5]), &right) {
-        Ok(()) => tree.set_leaf(0, leaf_digest(&[9])),
-        Err(GraftError::NoMemory) => return Err(NoMemory),
-        Err(GraftError::Differs { .. }) => return Ok(false),
-    }
-    Ok(tree.is_open(0) && tree.is_open(1) && is_hex(new_of_two(), &tree.root()))
+    is_hex(held_of_two(), &held)
+        && matches!(differs(alloc, &mut tree, held), Ok(true))
+        && grafts(alloc, &mut tree)
 }
 
-#[test]
-fn a_pruned_tree_of_two_blocks(rt: HostRuntime) {
-    assert!(rt; matches!(two_blocks(rt.alloc()), Ok(true)));
+/// Grafts a path of three digests. In the second way it is taken as verified.
+fn graft_along(
+    alloc: Global,
+    tree: &mut Pruned,
+    place: u32,
+    leaf: Digest,
+    path: &Path,
+    verified: bool,
+) -> bool
+    requires height { tree.old.height ≡ 3 }
+    requires within { place < 8 }
+    ensures { tree.new.height ≡ 3 }
+{
+    if path.len() != 3 {
+        return false;
+    }
+    let is_done = if verified {
+        tree.graft_verified(alloc, place, &leaf, path).is_ok()
+    } else {
+        tree.graft(alloc, place, &leaf, path).is_ok()
+    };
+    is_done && tree.is_open(place)
 }
 
-/// Grafts the path of a place, as the blocks have it. In the second way it is taken as verified.
+/// Grafts the path of a place, as the blocks have it.
 fn graft_path(
     alloc: Global,
     tree: &mut Pruned,
     blocks: &[Bytes],
     place: u32,
     verified: bool,
-) -> Result<bool, NoMemory> {
+) -> bool {
     if tree.height() != 3 || blocks.len() != 8 || place >= 8 {
-        return Ok(false);
+        return false;
     }
-    let path = path_of(alloc, 3, blocks, place)?;
     let leaf = leaf_digest(blocks[place as usize].as_slice());
-    if path.len() != 3 {
-        return Ok(false);
-    }
-    if verified {
-        tree.graft_verified(alloc, place, &leaf, &path)?;
-        return Ok(tree.is_open(place));
-    }
-    match tree.graft(alloc, place, &leaf, &path) {
-        Ok(()) => Ok(tree.is_open(place)),
-        Err(GraftError::Differs { .. }) => Ok(false),
-        Err(GraftError::NoMemory) => Err(NoMemory),
+    match path_of(alloc, 3, blocks, place) {
+        Ok(path) => graft_along(alloc, tree, place, leaf, &path, verified),
+        Err(NoMemory) => false,
     }
 }
 
@@ -121,14 +140,34 @@ fn set_block(
     blocks: &mut Vec<Bytes>,
     place: u32,
     byte: u8,
-) -> Result<bool, NoMemory> {
-    let block = block_of(alloc, byte)?;
+) -> bool {
     if tree.height() != 3 || blocks.len() != 8 || place >= 8 || !tree.is_open(place) {
-        return Ok(false);
+        return false;
     }
-    tree.set_leaf(place, leaf_digest(block.as_slice()));
-    blocks[place as usize] = block;
-    Ok(true)
+    match block_of(alloc, byte) {
+        Ok(block) => {
+            tree.set_leaf(place, leaf_digest(block.as_slice()));
+            blocks[place as usize] = block;
+            true
+        }
+        Err(NoMemory) => false,
+    }
+}
+
+fn graft_each(
+    alloc: Global,
+    tree: &mut Pruned,
+    blocks: &[Bytes],
+    writes: &[u8],
+    verified: bool,
+) -> bool {
+    for write in writes.chunks(2) {
+        match write {
+            [place, _] if graft_path(alloc, tree, blocks, *place as u32, verified) => {}
+            _ => return false,
+        }
+    }
+    true
 }
 
 /// The writes, each a place and a byte: all paths, then all leaves.
@@ -138,24 +177,17 @@ fn write_all(
     blocks: &mut Vec<Bytes>,
     writes: &[u8],
     verified: bool,
-) -> Result<bool, NoMemory> {
-    for write in writes.chunks(2) {
-        let [place, _] = write else {
-            return Ok(false);
-        };
-        if !graft_path(alloc, tree, blocks.as_slice(), *place as u32, verified)? {
-            return Ok(false);
-        }
+) -> bool {
+    if !graft_each(alloc, tree, blocks.as_slice(), writes, verified) {
+        return false;
     }
     for write in writes.chunks(2) {
-        let [place, byte] = write else {
-            return Ok(false);
-        };
-        if !set_block(alloc, tree, blocks, *place as u32, *byte)? {
-            return Ok(false);
+        match write {
+            [place, byte] if set_block(alloc, tree, blocks, *place as u32, *byte) => {}
+            _ => return false,
         }
     }
-    Ok(true)
+    true
 }
 
 /// In each row four writes, each a place and a byte, and the root after them, over eight blocks that begin as their
@@ -182,40 +214,51 @@ fn row_holds(
     blocks: &mut Vec<Bytes>,
     text: &[u8],
     verified: bool,
-) -> Result<bool, NoMemory> {
+) -> bool {
     let mut row = [0u8; 40];
     if hex::decode_to_slice(text, &mut row).is_err()
-        || !write_all(alloc, tree, blocks, &row[..8], verified)?
+        || !write_all(alloc, tree, blocks, &row[..8], verified)
     {
-        return Ok(false);
+        return false;
     }
     let read = tree.root();
     tree.prune_all();
-    Ok(read.as_bytes().as_slice() == &row[8..] && tree.root() == read && !tree.is_open(0))
+    read.as_bytes().as_slice() == &row[8..] && tree.root() == read && !tree.is_open(0)
 }
 
-/// How many rows hold. Every second one takes its paths as verified.
-fn rows_that_hold(alloc: Global) -> Result<usize, NoMemory> {
-    let mut blocks = counted(alloc, 8)?;
-    if blocks.len() != 8 {
-        return Ok(0);
-    }
-    let mut tree = Pruned::from_root(root(3, blocks.as_slice()), 3);
-    let mut held = 0;
+/// The first row that doesn't hold. Every second one takes its paths as verified.
+fn wrong_in(alloc: Global, tree: &mut Pruned, blocks: &mut Vec<Bytes>) -> Option<&'static [u8]> {
+    let mut verified = false;
     for row in rows().chunks(80) {
-        if !row_holds(alloc, &mut tree, &mut blocks, row, held % 2 == 1)? {
-            return Ok(held);
+        if !row_holds(alloc, tree, blocks, row, verified) {
+            return Some(row);
         }
-        if held < 100 {
-            held += 1;
-        }
+        verified = !verified;
     }
-    Ok(held)
+    None
 }
 
-#[test]
-fn changed_paths_give_the_root_of_the_changed_blocks(rt: HostRuntime) {
-    assert!(rt; matches!(rows_that_hold(rt.alloc()), Ok(12)));
+/// The root of eight blocks.
+fn root_of(blocks: &[Bytes]) -> Option<Digest> {
+    if blocks.len() == 8 {
+        Some(root(3, blocks))
+    } else {
+        None
+    }
+}
+
+fn wrong_row(alloc: Global, blocks: &mut Vec<Bytes>) -> Option<&'static [u8]> {
+    match root_of(blocks.as_slice()) {
+        Some(top) => wrong_in(alloc, &mut Pruned::from_root(top, 3), blocks),
+        None => Some(b""),
+    }
+}
+
+fn wrong_root(alloc: Global) -> Option<&'static [u8]> {
+    match counted(alloc, 8) {
+        Ok(mut blocks) => wrong_row(alloc, &mut blocks),
+        Err(NoMemory) => Some(b""),
+    }
 }
 
 /// Which of eight leaves are open, from the first on.
@@ -227,31 +270,46 @@ fn open_leaves(tree: &Pruned) -> [bool; 8] {
     open
 }
 
+/// Whether the leaves are open that have a 1.
+fn are_open(tree: &Pruned, marks: &[u8; 8]) -> bool {
+    let open = open_leaves(tree);
+    for place in 0..8 {
+        if open[place] != (marks[place] == b'1') {
+            return false;
+        }
+    }
+    true
+}
+
 /// What is open after the paths of places 5 and 7, which share their last digests, and after place 0 besides.
-fn shared(alloc: Global) -> Result<bool, NoMemory> {
-    let blocks = counted(alloc, 8)?;
-    if blocks.len() != 8 {
-        return Ok(false);
-    }
-    let top = root(3, blocks.as_slice());
+fn share(alloc: Global, tree: &mut Pruned, blocks: &[Bytes]) -> bool {
+    are_open(tree, b"00000000")
+        && graft_path(alloc, tree, blocks, 5, false)
+        && are_open(tree, b"00001100")
+        && graft_path(alloc, tree, blocks, 7, false)
+        && are_open(tree, b"00001111")
+        && graft_path(alloc, tree, blocks, 0, true)
+        && are_open(tree, b"11001111")
+}
+
+fn are_shared(alloc: Global, blocks: &[Bytes]) -> bool {
+    let Some(top) = root_of(blocks) else {
+        return false;
+    };
     let mut tree = Pruned::from_root(top, 3);
-    if open_leaves(&tree) != [false; 8]
-        || !graft_path(alloc, &mut tree, blocks.as_slice(), 5, false)?
-        || open_leaves(&tree) != [false, false, false, false, true, true, false, false]
-        || !graft_path(alloc, &mut tree, blocks.as_slice(), 7, false)?
-        || open_leaves(&tree) != [false, false, false, false, true, true, true, true]
-        || !graft_path(alloc, &mut tree, blocks.as_slice(), 0, true)?
-    {
-        return Ok(false);
+    share(alloc, &mut tree, blocks) && tree.settle() == top && tree.root() == top
+}
+
+fn shared(alloc: Global) -> bool {
+    match counted(alloc, 8) {
+        Ok(blocks) => are_shared(alloc, blocks.as_slice()),
+        Err(NoMemory) => false,
     }
-    Ok(
-        open_leaves(&tree) == [true, true, false, false, true, true, true, true]
-            && tree.settle() == top
-            && tree.root() == top,
-    )
 }
 
 #[test]
-fn paths_that_share_their_upper_parts(rt: HostRuntime) {
-    assert!(rt; matches!(shared(rt.alloc()), Ok(true)));
+fn pruned_trees(rt: HostRuntime) {
+    assert!(rt; two_blocks(rt.alloc()), "a tree of two blocks");
+    assert_eq!(rt; wrong_root(rt.alloc()), None);
+    assert!(rt; shared(rt.alloc()), "paths that share their upper parts");
 }

@@ -1,5 +1,7 @@
-//! A replica of one block of one byte, of a view at number 0: the part numbered n writes the byte n. Each row hands over a
-//! part, or asks, and says what is answered.
+//! A replica of one block of one byte, of a view at number 0: the part numbered n writes the byte n. Each row of a text has
+//! five bytes: it hands over a part, or asks, and says what is answered, with its numbers in decimal digits.
+ghost use Rattle.std.specs.Prelude.{◌≡◌, ◌<◌, IfSome};
+
 use crate::fitting::has_shape;
 use region_replica::{PartAnswer, RegionReplica};
 use region_view::RegionView;
@@ -8,17 +10,6 @@ use salus_message::{Answer, Ask};
 use salus_types::{Base, Bytes, Geometry, Header, Items, NoMemory, NodeName, PlaceWrite, Record};
 use std::alloc::Global;
 use std::test::*;
-
-/// What is answered to a part.
-#[derive(Clone, Copy, PartialEq, Eq, Debug, Drop)]
-enum Told {
-    Foreign,
-    Known,
-    Early,
-    Full,
-    Differs,
-    Next,
-}
 
 fn root_of_byte(byte: u8) -> Digest {
     leaf_digest([byte].as_slice())
@@ -81,107 +72,109 @@ fn base_of(alloc: Global) -> Result<Base, NoMemory> {
     })
 }
 
-/// A replica in session 1 that keeps nothing yet.
-fn fresh(alloc: Global) -> Result<Option<RegionReplica>, NoMemory> {
-    let Ok(geometry) = Geometry::new(0, 0, 1, 1) else {
-        return Ok(None);
-    };
-    let base = base_of(alloc)?;
-    if !has_shape(&geometry, base.blocks.as_slice()) {
-        return Ok(None);
+/// The view of the base, if it fits.
+fn view_of(alloc: Global, geometry: &Geometry, base: &Base) -> Option<RegionView>
+    ensures { IfSome result (λ view. view.shape ≡ geometry.now) }
+{
+    if has_shape(geometry, base.blocks.as_slice()) {
+        RegionView::new(alloc, geometry, base).ok()
+    } else {
+        None
     }
-    let view = RegionView::new(alloc, &geometry, &base)?;
-    let name = NodeName {
-        region: 0,
-        replica: 0,
-    };
-    Ok(Some(RegionReplica::new(alloc, &geometry, name, 1, view)))
 }
 
-/// Whether the part is that of the number.
-fn is_part(rec: &Record, seq: u64) -> bool {
-    rec.header.seq == seq && rec.writes.len() == 1
+/// The view of a base of its own.
+fn first_view(alloc: Global, geometry: &Geometry) -> Option<RegionView>
+    ensures { IfSome result (λ view. view.shape ≡ geometry.now) }
+{
+    match base_of(alloc) {
+        Ok(base) => view_of(alloc, geometry, &base),
+        Err(NoMemory) => None,
+    }
 }
 
-/// What is told of a part of that session and number; none where a part that is handed back is another.
-fn tell(
+fn digit(byte: u8) -> u64
+    ensures { result < 256 }
+{
+    u64::from(byte.saturating_sub(b'0'))
+}
+
+fn number(tens: u8, ones: u8) -> u64 {
+    digit(tens) * 10 + digit(ones)
+}
+
+// ---- parts
+
+/// The number of a part of one write that is given; 0 where none is.
+fn number_given(part: &Option<Record>) -> u64 {
+    match part {
+        Some(rec) if rec.writes.len() == 1 => rec.header.seq,
+        Some(_) => u64::MAX,
+        None => 0,
+    }
+}
+
+/// What is told of a part of that number, as a letter of the rows.
+fn letter_of(answer: &PartAnswer, seq: u64) -> u8 {
+    match answer {
+        PartAnswer::Foreign => b'f',
+        PartAnswer::Known => b'k',
+        PartAnswer::Early => b'e',
+        PartAnswer::Full => b'x',
+        PartAnswer::Differs { .. } => b'd',
+        PartAnswer::Next(rec) => {
+            if rec.header.seq == seq && rec.writes.len() == 1 {
+                b'n'
+            } else {
+                b'?'
+            }
+        }
+    }
+}
+
+/// Hands over a part, and says whether it is told so of it.
+fn hands(
     alloc: Global,
     replica: &mut RegionReplica,
     session: u64,
     seq: u64,
-) -> Result<Option<Told>, NoMemory> {
+    told: u8,
+) -> Result<bool, NoMemory> {
     let byte = (seq % 256) as u8;
     let rec = part_of(alloc, session, seq, byte, root_of_byte(byte))?;
-    Ok(match &replica.take_part(alloc, rec)? {
-        PartAnswer::Foreign => Some(Told::Foreign),
-        PartAnswer::Known => Some(Told::Known),
-        PartAnswer::Early => Some(Told::Early),
-        PartAnswer::Full => Some(Told::Full),
-        PartAnswer::Differs { .. } => Some(Told::Differs),
-        PartAnswer::Next(given) => {
-            if is_part(given, seq) {
-                Some(Told::Next)
-            } else {
-                None
-            }
-        }
-    })
+    match replica.take_part(alloc, rec) {
+        Ok(answer) => Ok(letter_of(&answer, seq) == told),
+        Err(NoMemory) => Err(NoMemory),
+    }
 }
 
-/// Whether the next kept part is that of the number.
-fn takes_kept(alloc: Global, replica: &mut RegionReplica, seq: u64) -> Result<bool, NoMemory> {
-    Ok(match &replica.take_kept(alloc)? {
-        Some(rec) => is_part(rec, seq),
-        None => false,
-    })
-}
-
-/// Parts in the wrong order: which number of the table isn't told as it should be, if any, and whether the kept parts come in
-/// their turn.
-fn in_order(alloc: Global, rows: &[(u64, u64, Told)]) -> Result<Option<usize>, NoMemory> {
-    let Some(mut replica) = fresh(alloc)? else {
-        return Ok(Some(0));
-    };
-    let mut wrong = None;
-    'rows: for (i, row) in rows.iter().enumerate() {
-        if tell(alloc, &mut replica, row.0, row.1)? != Some(row.2) && wrong.is_none() {
-            wrong = Some(i);
-        }
-    }
-    'kept: for seq in 2u64..18 {
-        if !takes_kept(alloc, &mut replica, seq)? && wrong.is_none() {
-            wrong = Some(100);
-        }
-    }
-    if replica.take_kept(alloc)?.is_some() || replica.view().number() != 17 {
-        return Ok(Some(200));
-    }
-    Ok(wrong)
-}
-
-/// Whether a part that names another root is refused with both.
-fn differs(alloc: Global) -> Result<bool, NoMemory> {
-    let Some(mut replica) = fresh(alloc)? else {
-        return Ok(false);
-    };
-    let rec = part_of(alloc, 1, 1, 1, root_of_byte(2))?;
-    let both = match &replica.take_part(alloc, rec)? {
+fn names_both(answer: &PartAnswer) -> bool {
+    match answer {
         PartAnswer::Differs { held, got } => *held == root_of_byte(2) && *got == root_of_byte(1),
         _ => false,
-    };
-    Ok(both && replica.view().number() == 0)
-}
-
-fn ask_of(read: u64, at: u64) -> Ask {
-    Ask {
-        session: 1,
-        read,
-        block: 0,
-        at,
     }
 }
 
-/// Whether it is the answer to that read, of the byte as of that number.
+/// Hands over a part that names another root, and says whether it is refused with both.
+fn differs(alloc: Global, replica: &mut RegionReplica) -> Result<bool, NoMemory> {
+    let rec = part_of(alloc, 1, 1, 1, root_of_byte(2))?;
+    match replica.take_part(alloc, rec) {
+        Ok(answer) => Ok(names_both(&answer)),
+        Err(NoMemory) => Err(NoMemory),
+    }
+}
+
+/// Takes the next kept part, and says whether it is that of the number; 0 is none.
+fn takes_kept(alloc: Global, replica: &mut RegionReplica, seq: u64) -> Result<bool, NoMemory> {
+    match replica.take_kept(alloc) {
+        Ok(part) => Ok(number_given(&part) == seq),
+        Err(NoMemory) => Err(NoMemory),
+    }
+}
+
+// ---- asks
+
+/// Whether it is the answer to that read, of the byte as of that number; a read of 0 is none.
 fn is_answer(answer: &Option<Answer>, read: u64, at: u64) -> bool {
     match answer {
         Some(answer) => {
@@ -191,60 +184,107 @@ fn is_answer(answer: &Option<Answer>, read: u64, at: u64) -> bool {
                 && answer.bytes.as_slice() == [(at % 256) as u8].as_slice()
                 && answer.path.is_empty()
         }
-        None => false,
+        None => read == 0,
     }
 }
 
-/// Asks for the numbers 0 to 3, of which one is asked anew.
-fn answers_asks(alloc: Global) -> Result<bool, NoMemory> {
-    let Some(mut replica) = fresh(alloc)? else {
-        return Ok(false);
+/// Asks, and says whether that read is answered at once.
+fn asks(
+    alloc: Global,
+    replica: &mut RegionReplica,
+    read: u64,
+    at: u64,
+    answered: u64,
+) -> Result<bool, NoMemory> {
+    let ask = Ask {
+        session: 1,
+        read,
+        block: 0,
+        at,
     };
-    let at_once = replica.take_ask(alloc, ask_of(4, 0))?;
-    let mut good = is_answer(&at_once, 4, 0);
-    'asks: for (read, at) in [(9u64, 1u64), (5, 3), (7, 1), (5, 1), (6, 2)] {
-        good = replica.take_ask(alloc, ask_of(read, at))?.is_none() && good;
+    match replica.take_ask(alloc, ask) {
+        Ok(answer) => Ok(is_answer(&answer, answered, at)),
+        Err(NoMemory) => Err(NoMemory),
     }
-    good = replica.due(alloc)?.is_none() && good;
-    good = tell(alloc, &mut replica, 1, 1)? == Some(Told::Next) && good;
-    'due: for read in [5u64, 7, 9] {
-        let answer = replica.due(alloc)?;
-        good = is_answer(&answer, read, 1) && good;
+}
+
+/// Whether the answer to that read is due next.
+fn is_due(
+    alloc: Global,
+    replica: &mut RegionReplica,
+    read: u64,
+    at: u64,
+) -> Result<bool, NoMemory> {
+    match replica.due(alloc) {
+        Ok(answer) => Ok(is_answer(&answer, read, at)),
+        Err(NoMemory) => Err(NoMemory),
     }
-    good = replica.due(alloc)?.is_none() && good;
-    good = tell(alloc, &mut replica, 1, 2)? == Some(Told::Next) && good;
-    let last = replica.due(alloc)?;
-    good = is_answer(&last, 6, 2) && good;
-    Ok(replica.due(alloc)?.is_none() && good)
+}
+
+// ---- rows: `p` hands over a part by its session and number, `w` one with another root, `k` takes a kept one, `a` asks by a
+// read and a number, `d` asks what is due, `n` says the view's number
+
+fn row_holds(alloc: Global, replica: &mut RegionReplica, row: &[u8]) -> Result<bool, NoMemory> {
+    match row {
+        [b'p', session, tens, ones, told] => hands(
+            alloc,
+            replica,
+            digit(*session),
+            number(*tens, *ones),
+            *told,
+        ),
+        [b'w', ..] => differs(alloc, replica),
+        [b'k', tens, ones, ..] => takes_kept(alloc, replica, number(*tens, *ones)),
+        [b'a', read, at, answered, _] => {
+            asks(alloc, replica, digit(*read), digit(*at), digit(*answered))
+        }
+        [b'd', read, at, ..] => is_due(alloc, replica, digit(*read), digit(*at)),
+        [b'n', tens, ones, ..] => Ok(replica.view().number() == number(*tens, *ones)),
+        _ => Ok(false),
+    }
+}
+
+/// The first row that doesn't hold.
+fn wrong_in<'a>(alloc: Global, replica: &mut RegionReplica, text: &'a [u8]) -> Option<&'a [u8]> {
+    for row in text.chunks(5) {
+        if !matches!(row_holds(alloc, replica, row), Ok(true)) {
+            return Some(row);
+        }
+    }
+    None
+}
+
+/// The first row that doesn't hold of a replica in session 1 that keeps nothing yet.
+fn wrong_row<'a>(alloc: Global, geometry: &Geometry, text: &'a [u8]) -> Option<&'a [u8]> {
+    let name = NodeName {
+        region: 0,
+        replica: 0,
+    };
+    match first_view(alloc, geometry) {
+        Some(view) => {
+            let mut replica = RegionReplica::new(alloc, geometry, name, 1, view);
+            wrong_in(alloc, &mut replica, text)
+        }
+        None => Some(text),
+    }
+}
+
+/// Parts in the wrong order, and then those that were kept.
+fn parts() -> &'static [u8] {
+    b"p102ep103ep104ep105ep106ep107ep108ep109ep110ep111ep112ep113ep114ep115ep116ep117e\
+        p118xp102ep101np101kp902f\
+        k02..k03..k04..k05..k06..k07..k08..k09..k10..k11..k12..k13..k14..k15..k16..k17..k00..n17.."
+}
+
+/// Asks as of the numbers 0 to 3, of which one is asked anew.
+fn questions() -> &'static [u8] {
+    b"a404.a910.a530.a710.a510.a620.d00..p101nd51..d71..d91..d00..p102nd62..d00.."
 }
 
 #[test]
 fn parts_are_taken_in_order(rt: HostRuntime) {
-    let rows = [
-        (1, 2, Told::Early),
-        (1, 3, Told::Early),
-        (1, 4, Told::Early),
-        (1, 5, Told::Early),
-        (1, 6, Told::Early),
-        (1, 7, Told::Early),
-        (1, 8, Told::Early),
-        (1, 9, Told::Early),
-        (1, 10, Told::Early),
-        (1, 11, Told::Early),
-        (1, 12, Told::Early),
-        (1, 13, Told::Early),
-        (1, 14, Told::Early),
-        (1, 15, Told::Early),
-        (1, 16, Told::Early),
-        (1, 17, Told::Early),
-        (1, 18, Told::Full),
-        (1, 2, Told::Early),
-        (1, 1, Told::Next),
-        (1, 1, Told::Known),
-        (9, 2, Told::Foreign),
-    ];
-    let wrong = in_order(rt.alloc(), rows.as_slice());
-    assert!(rt; matches!(wrong, Ok(None)), "row {wrong:?}");
-    assert!(rt; matches!(differs(rt.alloc()), Ok(true)));
-    assert!(rt; matches!(answers_asks(rt.alloc()), Ok(true)));
+    let geometry = Geometry::new(0, 0, 1, 1).expect(&rt, "a geometry");
+    for text in [parts(), b"w....n00..".as_slice(), questions()] {
+        assert_eq!(rt; wrong_row(rt.alloc(), &geometry, text), None);
+    }
 }

@@ -1,6 +1,6 @@
 //! Kept trees and kept tops: the worked examples, and many changes against the plain functions. Digests were computed
 //! by another program, after RFC 6962's rule and with the byte 02 in a volume's tree.
-ghost use Rattle.std.specs.Prelude.{◌≡◌, ◌≤◌, ◌^◌, length};
+ghost use Rattle.std.specs.Prelude.{◌≡◌, ◌<◌, ◌≤◌, ◌^◌, length, IfSome};
 
 use merkle_region::{Tree, path_of, root};
 use merkle_volume::{Tops, top};
@@ -57,47 +57,68 @@ fn blocks_of(alloc: Global, bytes: &[u8]) -> Result<Blocks, NoMemory> {
     Ok(Items::from_vec(blocks))
 }
 
-/// The tree over four blocks of the byte 00, with 05 put in the place of the third.
-fn one_of_four(alloc: Global) -> Result<bool, NoMemory> {
-    let blocks = blocks_of(alloc, [0, 0, 0, 0].as_slice())?;
-    if blocks.len() != 4 {
-        return Ok(false);
+/// The tree over blocks of one byte each, if so many fit.
+fn tree_of(alloc: Global, height: u32, bytes: &[u8]) -> Option<Tree>
+    requires { height ≤ 6 }
+    ensures { IfSome result (λ tree. tree.height ≡ height) }
+{
+    match blocks_of(alloc, bytes) {
+        Ok(blocks) if blocks.len() == 2usize.pow(height) => Tree::build(alloc, height, blocks).ok(),
+        _ => None,
     }
-    let mut tree = Tree::build(alloc, 2, blocks)?;
-    let replaced = tree.set(2, block_of(alloc, 5)?);
-    let path = tree.path(alloc, 2)?;
+}
+
+/// Puts a block of that byte, and says whether it took the place of one of the other.
+fn replaces(alloc: Global, tree: &mut Tree, place: u32, byte: u8, was: u8) -> bool
+    requires { place < 2 ^ tree.old.height }
+    ensures { tree.new.height ≡ tree.old.height }
+{
+    match block_of(alloc, byte) {
+        Ok(block) => {
+            let replaced = tree.set(place, block);
+            replaced.as_slice() == [was].as_slice()
+                && tree.block(place).as_slice() == [byte].as_slice()
+        }
+        Err(NoMemory) => false,
+    }
+}
+
+/// Whether the path of a place consists of these digests.
+fn has_path(alloc: Global, tree: &Tree, place: u32, beside: &[Digest]) -> bool
+    requires { place < 2 ^ tree.now.height }
+{
+    match tree.path(alloc, place) {
+        Ok(path) => path.as_slice() == beside,
+        Err(NoMemory) => false,
+    }
+}
+
+/// The tree over four blocks of the byte 00, with 05 put in the place of the third.
+fn one_of_four(alloc: Global) -> bool {
     let beside = [Digest::from_bytes(ZERO), Digest::from_bytes(ZEROS)];
-    Ok(
-        replaced.as_slice() == [0u8].as_slice()
-            && tree.block(2).as_slice() == [5u8].as_slice()
-            && tree.root() == Digest::from_bytes(CHANGED)
-            && path.as_slice() == beside.as_slice(),
-    )
+    match tree_of(alloc, 2, [0, 0, 0, 0].as_slice()) {
+        Some(mut tree) => {
+            replaces(alloc, &mut tree, 2, 5, 0)
+                && tree.root() == Digest::from_bytes(CHANGED)
+                && has_path(alloc, &tree, 2, beside.as_slice())
+        }
+        None => false,
+    }
 }
 
 /// The tree over one block, with 09 put in its place.
-fn one_alone(alloc: Global) -> Result<bool, NoMemory> {
-    let blocks = blocks_of(alloc, [0].as_slice())?;
-    if blocks.len() != 1 {
-        return Ok(false);
+fn one_alone(alloc: Global) -> bool {
+    let beside = [Digest::from_bytes(ZERO)];
+    match tree_of(alloc, 0, [0].as_slice()) {
+        Some(mut tree) => {
+            has_path(alloc, &tree, 0, &beside[..0])
+                && tree.root() == Digest::from_bytes(ZERO)
+                && replaces(alloc, &mut tree, 0, 9, 0)
+                && tree.root() == Digest::from_bytes(NINE)
+                && tree.height() == 0
+        }
+        None => false,
     }
-    let mut tree = Tree::build(alloc, 0, blocks)?;
-    let path = tree.path(alloc, 0)?;
-    let was = tree.root() == Digest::from_bytes(ZERO);
-    let _ = tree.set(0, block_of(alloc, 9)?);
-    Ok(path.is_empty() && was && tree.root() == Digest::from_bytes(NINE) && tree.height() == 0)
-}
-
-#[test]
-fn changed_trees(rt: HostRuntime) {
-    assert!(rt;
-        matches!(one_of_four(rt.alloc()), Ok(true)),
-        "one block of four"
-    );
-    assert!(rt;
-        matches!(one_alone(rt.alloc()), Ok(true)),
-        "one block alone"
-    );
 }
 
 fn next(dice: u32) -> u32 {
@@ -158,14 +179,13 @@ fn changes(alloc: Global, height: u32, times: u32) -> Result<bool, NoMemory>
     Ok(good)
 }
 
-#[test]
-fn trees_keep_pace(rt: HostRuntime) {
+fn changes_keep_pace(alloc: Global) -> Option<u32> {
     for height in 0u32..7 {
-        assert!(rt;
-            matches!(changes(rt.alloc(), height, 60), Ok(true)),
-            "height {height}"
-        );
+        if !matches!(changes(alloc, height, 60), Ok(true)) {
+            return Some(height);
+        }
     }
+    None
 }
 
 /// The leaves of the first 16 bytes.
@@ -197,26 +217,44 @@ fn tops_keep_pace(roots: &[Digest]) -> bool
     good && tops.roots().len() == roots.len()
 }
 
-#[test]
-fn tops_of_volumes(rt: HostRuntime) {
-    let roots = sixteen();
-    for (count, digest) in [(1, ZERO), (4, TOP_OF_4), (16, TOP_OF_16)] {
-        assert!(rt;
-            top(&roots[..count]) == Digest::from_bytes(digest),
-            "the top of {count}"
-        );
-        assert!(rt;
-            Tops::new(&roots[..count]).top() == Digest::from_bytes(digest),
-            "the kept top of {count}"
-        );
-    }
+/// Whether the top of these roots is so, kept or not.
+fn has_top(roots: &[Digest], digest: [u8; 32]) -> bool
+    requires some { 1 ≤ length roots.now }
+    requires few { length roots.now ≤ 16 }
+{
+    top(roots) == Digest::from_bytes(digest) && Tops::new(roots).top() == Digest::from_bytes(digest)
+}
+
+/// Whether the top is so once the root of region 11 is that of a block of 00.
+fn changes_top(roots: &[Digest; 16]) -> bool {
     let mut tops = Tops::new(roots.as_slice());
     tops.set_region(11, &Digest::from_bytes(ZERO));
-    assert!(rt;
-        tops.top() == Digest::from_bytes(TOP_CHANGED),
-        "one root changed"
-    );
-    for count in [1, 2, 4, 8, 16] {
-        assert!(rt; tops_keep_pace(&roots[..count]), "tops of {count}");
+    tops.top() == Digest::from_bytes(TOP_CHANGED)
+}
+
+fn tops_hold(roots: &[Digest; 16]) -> bool {
+    has_top(&roots[..1], ZERO)
+        && has_top(&roots[..4], TOP_OF_4)
+        && has_top(&roots[..16], TOP_OF_16)
+        && changes_top(roots)
+}
+
+/// The first number of regions whose tops don't keep pace.
+fn wrong_tops(roots: &[Digest; 16]) -> Option<usize> {
+    for count in [1usize, 2, 4, 8, 16] {
+        if !tops_keep_pace(&roots[..count]) {
+            return Some(count);
+        }
     }
+    None
+}
+
+#[test]
+fn trees_and_tops(rt: HostRuntime) {
+    assert!(rt; one_of_four(rt.alloc()), "one block of four");
+    assert!(rt; one_alone(rt.alloc()), "one block alone");
+    assert_eq!(rt; changes_keep_pace(rt.alloc()), None);
+    let roots = sixteen();
+    assert!(rt; tops_hold(&roots), "tops of worked examples");
+    assert_eq!(rt; wrong_tops(&roots), None);
 }

@@ -1,27 +1,35 @@
-//! Gathers three replicas' replies of a volume of 16 regions of 256 blocks of 256 bytes with 16 parts a region, and
-//! chooses from them. What was chosen goes to standard output; to standard error goes how long gathering and choosing
-//! took, and how long it takes to hash once what the pool holds: the root of each base and the tag of each record.
+//! A client restarts a full volume: 16 regions of 256 blocks of 256 bytes, of which three servers each reply with a base and
+//! 16 parts. What it posts and prints goes to standard output; to standard error goes how long it took to gather the replies,
+//! to choose and post the bases after the last one, and to open the session after that, and how long it takes to hash once
+//! what the replies hold: the root of each base and the tag of each record.
+//!
+//! With the word `replies` it makes and hashes the replies alone, so that the memory of the restart itself can be told. Before
+//! it ends it reads standard input to its end, so that its memory can be looked at.
 #![tactic(auto)]
 
-ghost use Rattle.std.specs.Prelude.{◌≡◌, length, ◌^◌};
-ghost use Rattle.client_tag.specs.Ranges.{IsRecord};
+ghost use Rattle.std.specs.Prelude.{◌≡◌, IfOk};
+ghost use Rattle.salus_message.specs.Ranges.{IsMessage};
+ghost use Rattle.client_node.specs.Standing.{newest_of};
 
+mod replies;
 mod volume;
 
-use crate::volume::{base_record, part, roots, top_of, trees, write};
-use client_tag::{payload, seal};
-use merkle_region::{Tree, root};
-use restart_pool::Pool;
+use crate::replies::{Reply, hash_all, replies};
+use client_asking::Step;
+use client_node::ClientNode;
+use printed_lines::Line;
 use salus_hash::HmacKey;
-use salus_types::{Base, Geometry, Items, NoMemory, Record, TryClone};
+use salus_io::{StdSource, read_whole};
+use salus_message::{Message, Staged, Switched, encode};
+use salus_model::Request;
+use salus_types::{Geometry, NoMemory, NodeName, Sender};
 use std::alloc::Global;
-use std::io;
 use std::rt::Runtime;
 use std::time::Instant;
-use volume_restart::choose;
+use std::{env, io};
 
-/// How many replicas' replies there are.
-const REPLICAS: u32 = 3;
+/// The session that is opened.
+const SESSION: u64 = 2;
 
 /// What went wrong.
 #[derive(Debug, Drop)]
@@ -42,175 +50,262 @@ impl From<NoMemory> for Fault {
     }
 }
 
-/// Microseconds, and a byte that the hashes are mixed to.
+/// Nanoseconds.
 #[derive(Clone, Copy, Drop)]
 struct Times {
+    /// Of the replies but the last.
     gathering: u128,
-    hashing: u128,
-    mixed: u8,
+    /// Of the last reply, until the bases are posted.
+    choosing: u128,
+    /// Of the answers after that.
+    opening: u128,
 }
 
-/// Adds the record once for each replica, and hashes it as often.
-fn gather_record(
+/// How many bytes the messages of a step have.
+fn posted_bytes(step: &Step) -> usize {
+    let mut bytes: usize = 0;
+    for out in step.outs.as_slice() {
+        bytes = bytes.saturating_add(out.bytes.len());
+    }
+    bytes
+}
+
+/// Prints a line of an opening.
+fn print_line(rt: &impl Runtime, line: &Line) -> io::Result<()> {
+    match line {
+        Line::Stage { session, from, seq } => println!(rt; "stage {session} from {from} {seq}"),
+        Line::Open { session } => println!(rt; "open {session}"),
+        _ => println!(rt; "another line"),
+    }
+}
+
+/// Prints how many messages and bytes a step posts.
+fn print_posted(rt: &impl Runtime, step: &Step) -> io::Result<()> {
+    let count = step.outs.len();
+    let bytes = posted_bytes(step);
+    println!(rt; "{count} messages, {bytes} bytes")
+}
+
+/// Prints what a step posts, if anything, and its lines.
+fn print_step(rt: &impl Runtime, step: &Step) -> io::Result<()> {
+    if !step.outs.is_empty() {
+        print_posted(rt, step)?;
+    }
+    for line in step.lines.as_slice() {
+        print_line(rt, line)?;
+    }
+    Ok(())
+}
+
+/// Hands over a message of a server.
+fn hear(client: &mut ClientNode, name: NodeName, bytes: &[u8]) -> Result<Step, Fault> {
+    let geometry = client.geometry();
+    if u32::from(name.region) >= geometry.regions() {
+        return Err(Fault::NoMemory);
+    }
+    if u32::from(name.replica) >= geometry.replicas() {
+        return Err(Fault::NoMemory);
+    }
+    let step = client.receive(Sender::Node(name), bytes)?;
+    Ok(step)
+}
+
+/// Hands over a message of a server, and notes how long that took.
+fn hear_timed(
+    rt: &impl Runtime,
+    client: &mut ClientNode,
+    name: NodeName,
+    bytes: &[u8],
+    times: &mut Times,
+) -> Result<Step, Fault> {
+    let start = Instant::now(rt)?;
+    let step = hear(client, name, bytes)?;
+    let nanos = start.elapsed(rt)?.as_nanos();
+    if step.outs.is_empty() {
+        times.gathering = times.gathering.saturating_add(nanos);
+    } else {
+        times.choosing = times.choosing.saturating_add(nanos);
+    }
+    Ok(step)
+}
+
+/// Hands over the same message of each server of a region.
+fn hear_group(
+    rt: &impl Runtime,
+    client: &mut ClientNode,
+    region: u16,
+    bytes: &[u8],
+    times: &mut Times,
+) -> Result<(), Fault> {
+    for replica in 0..3 {
+        let step = hear_timed(rt, client, NodeName { region, replica }, bytes, times)?;
+        print_step(rt, &step)?;
+    }
+    Ok(())
+}
+
+/// Hands over each server's reply.
+fn gather(
+    rt: &impl Runtime,
+    client: &mut ClientNode,
+    replies: &[Reply],
+    times: &mut Times,
+) -> Result<(), Fault> {
+    for (region, reply) in replies.iter().enumerate() {
+        hear_group(
+            rt,
+            client,
+            (region % 16) as u16,
+            reply.bytes.as_slice(),
+            times,
+        )?;
+    }
+    Ok(())
+}
+
+/// Hands over the same answer of each server.
+fn answer(
     rt: &impl Runtime,
     alloc: Global,
-    key: &HmacKey,
-    pool: &mut Pool,
-    rec: &Record,
-    times: &mut Times,
-) -> Result<(), Fault>
-    requires { IsRecord rec.now }
+    client: &mut ClientNode,
+    message: &Message,
+) -> Result<u128, Fault>
+    requires { IsMessage message.now }
 {
-    let text = payload(alloc, rec)?;
-    let start = Instant::now(rt)?;
-    for _ in 0..REPLICAS {
-        pool.add_record(alloc, key, rec)?;
+    let bytes = encode(alloc, message)?;
+    let mut times = Times {
+        gathering: 0,
+        choosing: 0,
+        opening: 0,
+    };
+    for region in 0..16 {
+        hear_group(rt, client, region, bytes.as_slice(), &mut times)?;
     }
-    times.gathering = times
-        .gathering
-        .saturating_add(start.elapsed(rt)?.as_nanos());
-    let start = Instant::now(rt)?;
-    for _ in 0..REPLICAS {
-        times.mixed ^= key.hmac(text.as_slice()).as_bytes()[0];
-    }
-    times.hashing = times.hashing.saturating_add(start.elapsed(rt)?.as_nanos());
-    Ok(())
+    Ok(times.gathering.saturating_add(times.choosing))
 }
 
-/// The same of a base.
-fn gather_base(
-    rt: &impl Runtime,
-    alloc: Global,
-    key: &HmacKey,
-    pool: &mut Pool,
-    base: &Base,
-    times: &mut Times,
-) -> Result<(), Fault>
-    requires { IsRecord base.now.rec }
+/// The client of a formatted volume, after a crash.
+fn crashed_client(alloc: Global, geometry: Geometry, key: HmacKey) -> Result<ClientNode, Fault>
+    ensures { IfOk result (λ client. newest_of client ≡ 0) }
 {
-    let text = payload(alloc, &base.rec)?;
-    let start = Instant::now(rt)?;
-    for _ in 0..REPLICAS {
-        pool.add_base(alloc, key, base)?;
-    }
-    times.gathering = times
-        .gathering
-        .saturating_add(start.elapsed(rt)?.as_nanos());
-    let blocks = base.blocks.as_slice();
-    let start = Instant::now(rt)?;
-    if blocks.len() == 256 {
-        for _ in 0..REPLICAS {
-            times.mixed ^= key.hmac(text.as_slice()).as_bytes()[0];
-            times.mixed ^= root(8, blocks).as_bytes()[0];
-        }
-    }
-    times.hashing = times.hashing.saturating_add(start.elapsed(rt)?.as_nanos());
+    let mut client = ClientNode::format(alloc, geometry, key)?;
+    client.crash();
+    Ok(client)
+}
+
+/// Asks for the restart.
+fn ask(rt: &impl Runtime, client: &mut ClientNode) -> Result<(), Fault>
+    requires { newest_of client.old ≡ 0 }
+{
+    let request = Request::Restart { session: SESSION };
+    let step = client.request(1, request)?;
+    print_step(rt, &step)?;
     Ok(())
 }
 
-/// Gathers the bases of the regions.
-fn gather_bases(
-    rt: &impl Runtime,
-    alloc: Global,
-    key: &HmacKey,
-    pool: &mut Pool,
-    trees: &[Tree],
-    times: &mut Times,
-) -> Result<(), Fault> {
-    let roots = roots(alloc, trees)?;
-    let top = top_of(roots.as_slice());
-    for (region, tree) in trees.iter().enumerate() {
-        let mut rec = base_record(alloc, (region % 16) as u16, tree.root(), top)?;
-        seal(alloc, key, &mut rec)?;
-        let mut blocks = Items::new(alloc);
-        for block in tree.blocks() {
-            blocks.push(block.try_clone(alloc)?)?;
-        }
-        let base = Base { rec, blocks };
-        gather_base(rt, alloc, key, pool, &base, times)?;
-    }
-    Ok(())
+/// Hands over that each server has staged the session, and then that each has switched to it.
+fn answer_all(rt: &impl Runtime, alloc: Global, client: &mut ClientNode) -> Result<u128, Fault> {
+    let staged = Message::Staged(Staged { session: SESSION });
+    let switched = Message::Switched(Switched { session: SESSION });
+    let staging = answer(rt, alloc, client, &staged)?;
+    let switching = answer(rt, alloc, client, &switched)?;
+    Ok(staging.saturating_add(switching))
 }
 
-/// Gathers a batch's parts.
-fn gather_parts(
+/// The restart, from the request until the session is open.
+fn restart(
     rt: &impl Runtime,
     alloc: Global,
-    key: &HmacKey,
-    pool: &mut Pool,
-    trees: &[Tree],
-    batch: u64,
-    times: &mut Times,
-) -> Result<(), Fault> {
-    let roots = roots(alloc, trees)?;
-    let top = top_of(roots.as_slice());
-    for (region, tree) in trees.iter().enumerate() {
-        let mut rec = part(alloc, batch, (region % 16) as u16, tree.root(), top)?;
-        seal(alloc, key, &mut rec)?;
-        gather_record(rt, alloc, key, pool, &rec, times)?;
-    }
-    Ok(())
+    client: &mut ClientNode,
+    replies: &[Reply],
+) -> Result<Times, Fault>
+    requires { newest_of client.old ≡ 0 }
+{
+    let mut times = Times {
+        gathering: 0,
+        choosing: 0,
+        opening: 0,
+    };
+    ask(rt, client)?;
+    gather(rt, client, replies, &mut times)?;
+    times.opening = answer_all(rt, alloc, client)?;
+    Ok(times)
 }
 
-/// Chooses, and prints what and how long it took.
-fn choose_and_print(
-    rt: &impl Runtime,
-    alloc: Global,
-    pool: &Pool,
-    times: Times,
-) -> Result<(), Fault> {
+/// How many bytes the replies have, each of three servers.
+fn size_of(replies: &[Reply]) -> usize {
+    let mut bytes: usize = 0;
+    for reply in replies {
+        bytes = bytes.saturating_add(reply.bytes.len().saturating_mul(3));
+    }
+    bytes
+}
+
+/// How many nanoseconds it takes to hash what the replies hold, and a byte that the hashes are mixed to.
+fn hash(rt: &impl Runtime, key: &HmacKey, replies: &[Reply]) -> Result<(u128, u8), Fault> {
     let start = Instant::now(rt)?;
-    let choice = choose(alloc, pool)?;
-    let choosing = start.elapsed(rt)?.as_nanos();
-    match choice {
-        Some(choice) => {
-            let blocks = choice.contents.len();
-            println!(rt;
-                "chosen: batch {} of session {}, {blocks} blocks",
-                choice.number, choice.session
-            )?;
-        }
-        None => println!(rt; "chosen: none")?,
-    }
+    let mixed = hash_all(key, replies);
+    Ok((start.elapsed(rt)?.as_nanos(), mixed))
+}
+
+/// Says how long the restart and the hashing took.
+fn say(rt: &impl Runtime, times: Times, hashing: u128, bytes: usize) -> Result<(), Fault> {
     eprintln!(rt;
-        "gathering {} us, choosing {} us, hashing {} us, mixed to {}",
+        "gathering {} us, choosing {} us, opening {} us, hashing {} us, replies {bytes} bytes",
         times.gathering / 1000,
-        choosing / 1000,
-        times.hashing / 1000,
-        times.mixed
+        times.choosing / 1000,
+        times.opening / 1000,
+        hashing / 1000
     )?;
     Ok(())
 }
 
-fn run(rt: &impl Runtime, alloc: Global, geometry: Geometry) -> Result<(), Fault> {
-    let key = HmacKey::new(b"Jefe");
-    let mut times = Times {
-        gathering: 0,
-        hashing: 0,
-        mixed: 0,
-    };
-    let mut pool = Pool::new(alloc, geometry);
-    let mut trees = trees(alloc)?;
-    gather_bases(rt, alloc, &key, &mut pool, trees.as_slice(), &mut times)?;
-    for batch in 1..17 {
-        write(alloc, &mut trees, batch)?;
-        gather_parts(
-            rt,
-            alloc,
-            &key,
-            &mut pool,
-            trees.as_slice(),
-            batch,
-            &mut times,
-        )?;
+/// Restarts the volume from the replies, and says how long that took.
+fn measure(
+    rt: &impl Runtime,
+    alloc: Global,
+    geometry: Geometry,
+    key: HmacKey,
+    replies: &[Reply],
+    hashing: u128,
+) -> Result<(), Fault> {
+    let mut client = crashed_client(alloc, geometry, key)?;
+    let times = restart(rt, alloc, &mut client, replies)?;
+    say(rt, times, hashing, size_of(replies))
+}
+
+fn run(rt: &impl Runtime, alloc: Global, geometry: Geometry, alone: bool) -> Result<(), Fault> {
+    let key = HmacKey::new(b"Jefe".as_slice());
+    let replies = replies(alloc, &key)?;
+    let (hashing, mixed) = hash(rt, &key, replies.as_slice())?;
+    if alone {
+        eprintln!(rt; "hashes mixed to {mixed}")?;
+        return Ok(());
     }
-    choose_and_print(rt, alloc, &pool, times)
+    measure(rt, alloc, geometry, key, replies.as_slice(), hashing)
+}
+
+/// Whether the word `replies` was given.
+fn is_alone(rt: &HostRuntime) -> io::Result<bool> {
+    for word in env::args(rt)?.skip(1) {
+        if word.as_str() == "replies" {
+            return Ok(true);
+        }
+    }
+    Ok(false)
+}
+
+/// Waits for the end of standard input.
+fn wait(rt: &HostRuntime) {
+    let mut source = StdSource::new(rt.stdin());
+    let _ = read_whole(rt.alloc(), &mut source, 64);
 }
 
 fn main(rt: HostRuntime) -> io::Result<()> {
+    let alone = is_alone(&rt)?;
     match Geometry::new(4, 8, 256, 3) {
-        Ok(geometry) => match run(&rt, rt.alloc(), geometry) {
-            Ok(()) => Ok(()),
+        Ok(geometry) => match run(&rt, rt.alloc(), geometry, alone) {
+            Ok(()) => Ok(wait(&rt)),
             Err(Fault::Io(error)) => Err(error),
             Err(Fault::NoMemory) => println!(rt; "no memory"),
         },

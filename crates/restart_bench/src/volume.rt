@@ -8,6 +8,9 @@ use salus_hash::Digest;
 use salus_types::{Blocks, Header, Items, NoMemory, PlaceWrite, Record};
 use std::alloc::Global;
 
+/// How many batches there are.
+pub const BATCHES: u32 = 16;
+
 /// The bytes of a block, which differ from one place, region and batch to the next.
 fn block_bytes(place: u16, region: u16, batch: u64) -> [u8; 256] {
     let mut bytes = [0; 256];

@@ -1,5 +1,5 @@
 -- The ends of the chains of a session in a region, and how chains go on with given parts.
-use Rattle.std.proofs.Common.{◌≡◌, ℕ, suc, ◌+◌, ◌<◌, ◌≤◌, ◌∙◌, Bool, true, false, ◌==◌, ◌&&◌, nat_lt, cond, List, [], ◌∷◌, ◌++◌, length, drop, get_or, MatchOption, Option, None, Some, bytes_eq, refl, ap, sym, subst, arith}
+use Rattle.std.proofs.Common.{◌≡◌, ℕ, suc, ◌+◌, ◌<◌, ◌≤◌, ◌∙◌, Bool, true, false, ◌==◌, ◌&&◌, nat_lt, cond, List, [], ◌∷◌, ◌++◌, length, drop, get_or, MatchOption, Option, None, Some, bytes_eq, refl, ap, ap₂, sym, subst, arith}
 use Rattle.std.specs.Prelude.{filter, filter_map, slice_get, option_and_then, option_map}
 use Rattle.std.proofs.lemmas.Bool.{eqb-true, eq-eqb, false≢true, and_parts, and_from, cond-true, cond-false}
 use Rattle.std.proofs.lemmas.Option.{none-some, same_Some}
@@ -167,6 +167,13 @@ pub replay-done : (shape : Shape) (end : End) (parts : List Record) (later : Lis
     → follow shape end (along parts (drop i later)) ≡ start → start ≡ Some end
 unfolding follow
 replay-done shape end parts later i le start so_far = sym so_far ∙ at_drop_all (λ places. follow shape end (along parts places)) later i le
+
+-- the base alone, whose record names its root
+pub whole-alone : (shape : Shape) (base : Base) (parts : List Record) (later : List ℕ) (whole : Whole) → length later ≡ 0 → root_of shape.height base.blocks ≡ base.rec.header.root
+    → whole.root ≡ base.rec.header.root → whole.blocks ≡ base.blocks → Some whole ≡ option_map (whole_at shape) (follow shape (base_end base) (along parts later))
+unfolding follow
+whole-alone shape base parts [] whole none rooted root blocks = ap Some (ap₂ (λ r bs. record { root = r; blocks = bs }) (root ∙ sym rooted) blocks)
+whole-alone shape base parts (i ∷ later) whole none rooted root blocks = absurd (omega (arith, none))
 
 -- what a replay says of a base and a way
 module _ (c : Chains) (way : Way) (base : Base) (among : IsAmong base c.bases) (starts : starts_at c way.at base ≡ true) where

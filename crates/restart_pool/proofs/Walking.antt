@@ -41,9 +41,9 @@ among-get [] rec m = absurd m
 among-get (r ∷ parts) rec (inl e) = (zero, ap Some (sym e))
 among-get (r ∷ parts) rec (inr m) = let rest = among-get parts rec m in (suc rest.0, rest.1)
 
-pub among-got : (parts : List Record) (i : ℕ) (found : Option (Bor Record)) → option_copied found ≡ slice_get parts i → IfSome found (λ rec. IsAmong rec.now parts)
-among-got parts i None e = tt
-among-got parts i (Some rec) e = get_among parts i rec.now (sym e)
+pub among-got : {A : Type 0} (xs : List A) (i : ℕ) (found : Option (Bor A)) → option_copied found ≡ slice_get xs i → IfSome found (λ x. IsAmong x.now xs)
+among-got xs i None e = tt
+among-got xs i (Some x) e = get_among xs i x.now (sym e)
 
 module _ (c : Chains) (way : Way) where
   abbrev numbers : List ℕ

@@ -14,6 +14,10 @@ use Rattle.restart_pool.specs.declared.assemble.Contents.{Contents}
 abbrev pub joined : List (List (List ℕ)) → List (List ℕ)
 joined pick = flat_map (λ blocks. blocks) pick
 
+-- with the root of each region
+abbrev pub contents_by : Shape → List (List (List ℕ)) → Contents
+contents_by shape pick = record { roots = map (root_of shape.height) pick; blocks = joined pick }
+
 -- for each region the blocks of a chain of the session up to the region's front
 pub record AreChains (kept : Kept) (e : ℕ) (fronts : List ℕ) (pick : List (List (List ℕ))) : Type 0 where
   pub count : length pick ≡ regions kept.shape
@@ -30,7 +34,7 @@ pub record AreWhole (kept : Kept) (e : ℕ) (fronts : List ℕ) (n : ℕ) (conte
   pub pick : List (List (List ℕ))
   pub count : length pick ≡ n
   pub each : (g : ℕ) → g < n → IsAmong (slice_index_or pick g []) (blocks_up_to kept.shape kept.held e g (slice_index fronts g))
-  pub roots : contents.roots.items ≡ map (root_of kept.shape.height) pick
+  pub roots : contents.roots ≡ map (root_of kept.shape.height) pick
   pub blocks : contents.blocks ≡ joined pick
 
 -- a region has no chain of the session up to its front
@@ -40,11 +44,11 @@ pub record HasNoChain (kept : Kept) (e : ℕ) (fronts : List ℕ) : Type 0 where
   pub none : blocks_up_to kept.shape kept.held e region (slice_index fronts region) ≡ []
 
 -- the header's front for each region, and its top
-pub record IsRecovered (kept : Kept) (h : Header) (contents : List (List ℕ)) : Type 0 where
+pub record IsRecovered (kept : Kept) (h : Header) (contents : Contents) : Type 0 where
   pub pick : List (List (List ℕ))
   pub among : IsAmong pick (picks (choices_of kept.shape kept.held h))
   pub top : has_top kept.shape h pick ≡ true
-  pub is : contents ≡ joined pick
+  pub is : contents ≡ contents_by kept.shape pick
 
 -- ---- where records of one session, number and region are one record
 
@@ -69,5 +73,5 @@ abbrev pub pool_strings : Shape → Pool → List (List ℕ)
 pool_strings shape pool = flat_map (λ h. session_strings shape pool h.session) pool.headers
 
 -- the contents that the header names, as the definition chooses them
-abbrev pub contents_of : Kept → Header → Option (List (List ℕ))
-contents_of kept h = option_map joined (recovered kept.shape kept.held h)
+abbrev pub contents_of : Kept → Header → Option Contents
+contents_of kept h = option_map (contents_by kept.shape) (recovered kept.shape kept.held h)

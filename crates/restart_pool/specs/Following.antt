@@ -4,8 +4,9 @@ use Rattle.salus_types.specs.Volume.{Shape}
 use Rattle.salus_types.specs.declared.records.Record.{Record}
 use Rattle.salus_types.specs.declared.records.Base.{Base}
 use Rattle.merkle_region.specs.Tree.{root_of, IsAmong}
-use Rattle.holding_model.specs.Fitting.{blocks_after, has_shape}
+use Rattle.holding_model.specs.Fitting.{blocks_after}
 use Rattle.volume_model.specs.Recovering.{End, base_end, is_link, is_of, chain_ends}
+use Rattle.restart_pool.specs.Kept.{HasRoot}
 use Rattle.restart_pool.specs.declared.replay.Whole.{Whole}
 use Rattle.restart_pool.specs.declared.chain.Way.{Way}
 use Rattle.restart_pool.specs.declared.chain.Lane.{Lane}
@@ -44,10 +45,10 @@ pub record Chains : Type 0 where
 abbrev pub seen : Lane → Chains
 seen lane = record { shape = lane.geometry; session = lane.session; region = lane.region; bases = lane.bases.now; parts = lane.parts.now }
 
--- the index has the numbers of the parts, the bases have the shape of a region, and no part has a run
+-- the index has the numbers of the parts, the bases have the shape of a region and their records' roots, and no part has a run
 pub record IsLane (lane : Lane) : Type 0 where
   pub indexed : lane.index.now ≡ map (λ rec. rec.header.seq) lane.parts.now
-  pub shaped : (base : Base) → IsAmong base lane.bases.now → has_shape lane.geometry base.blocks ≡ true
+  pub rooted : (base : Base) → IsAmong base lane.bases.now → HasRoot lane.geometry base
   pub plain : (rec : Record) → IsAmong rec lane.parts.now → rec.run ≡ None
 
 -- the ends of the chains

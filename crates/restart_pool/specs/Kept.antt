@@ -29,6 +29,10 @@ with_base key kept base =
     then record { shape = kept.shape; held = record { bases = kept.held.bases ++ base ∷ []; parts = kept.held.parts; headers = kept.held.headers ++ base.rec.header ∷ [] } }
     else kept
 
+-- the base has a block for each place, and its record's root
+abbrev pub HasRoot : Shape → Base → Type 0
+HasRoot shape base = (has_shape shape base.blocks ≡ true) × (root_of shape.height base.blocks ≡ base.rec.header.root)
+
 -- the numbers of the parts are indexed, the bases have the shape of a region and their records' roots, and no part has a run
 pub record IsKept (shape : Shape) (bases : List Base) (parts : List Record) (numbers : List ℕ) : Type 0 where
   pub indexed : numbers ≡ map (λ rec. rec.header.seq) parts

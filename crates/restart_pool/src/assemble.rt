@@ -11,13 +11,13 @@ use crate::pool::Pool;
 use crate::replay::Whole;
 use merkle_volume::top;
 use salus_hash::Digest;
-use salus_types::{Blocks, Header, Items, NoMemory};
+use salus_types::{Blocks, Digests, Header, Items, NoMemory};
 use std::alloc::Global;
 
-/// The contents of a volume, and the roots of its regions.
+/// The contents of a volume, region by region, and the root of each region.
 #[derive(Drop)]
 pub struct Contents {
-    pub roots: Vec<Digest>,
+    pub roots: Digests,
     pub blocks: Blocks,
 }
 
@@ -30,7 +30,7 @@ fn front_of(fronts: &[u64], region: u32) -> u64
 
 /// Adds a region's blocks and their root.
 fn add_region(contents: &mut Contents, whole: Whole) -> Result<(), NoMemory>
-    ensures roots { OnOk result (contents.new.roots.items ≡ contents.old.roots.items ++ whole.root ∷ []) }
+    ensures roots { OnOk result (contents.new.roots ≡ contents.old.roots ++ whole.root ∷ []) }
     ensures blocks { OnOk result (contents.new.blocks ≡ contents.old.blocks ++ whole.blocks) }
 {
     contents.roots.push(whole.root)?;
@@ -39,12 +39,12 @@ fn add_region(contents: &mut Contents, whole: Whole) -> Result<(), NoMemory>
 }
 
 /// The contents, if their roots have this top.
-fn with_top(contents: Contents, held: &Digest) -> Option<Blocks>
-    requires { 0 < length contents.roots.items }
-    ensures { (k : ℕ) → length contents.roots.items ≡ 2 ^ k → result ≡ (if bytes_eq (top_of k contents.roots.items) held.now then Some contents.blocks else None) }
+fn with_top(contents: Contents, held: &Digest) -> Option<Contents>
+    requires { 0 < length contents.roots }
+    ensures { (k : ℕ) → length contents.roots ≡ 2 ^ k → result ≡ (if bytes_eq (top_of k contents.roots) held.now then Some contents else None) }
 {
-    if top(&contents.roots) == *held {
-        Some(contents.blocks)
+    if top(contents.roots.as_slice()) == *held {
+        Some(contents)
     } else {
         None
     }
@@ -76,7 +76,7 @@ impl Pool {
         ensures { IfOk result (λ found. MatchOption found (HasNoChain self.now session fronts.now) (AreWhole self.now session fronts.now (regions self.now.shape))) }
     {
         let mut contents = Contents {
-            roots: Vec::new(alloc),
+            roots: Items::new(alloc),
             blocks: Items::new(alloc),
         };
         'regions: for region in 0..self.geometry().regions() {
@@ -104,10 +104,10 @@ impl Pool {
         }
     }
 
-    /// The contents that a header names: those of a chain for each region up to its front, which have its top. Where no
+    /// The contents that a header names, with their roots: those of a chain for each region up to its front, which have its top. Where no
     /// two different kept records share session, number and region, and no two strings of the chains collide, it is
     /// None exactly where there are none.
-    pub fn recovered(&self, alloc: Global, header: &Header) -> Result<Option<Blocks>, NoMemory>
+    pub fn recovered(&self, alloc: Global, header: &Header) -> Result<Option<Contents>, NoMemory>
         ensures sound { IfOk result (λ found. IfSome found (IsRecovered self.now header.now)) }
         ensures exact { IfOk result (λ found. NoTwoShare self.now.held → NoTwoCollide (session_strings self.now.shape self.now.held header.now.session) → found ≡ contents_of self.now header.now) }
     {

@@ -8,7 +8,7 @@ ghost use Rattle.volume_model.specs.Recovering.{is_of};
 ghost use Rattle.restart_pool.specs.Following.{seen, IsLane, NoneStarts, NoneFollows, IsEndAt, later_of, Begins, NotBegun, SomeBegins, NoneBegins, IsTried, AddsOne, AddsLonger, AreLonger};
 
 use crate::index::NumberIndex;
-use crate::replay::{Whole, replay};
+use crate::replay::{Whole, whole_after};
 use salus_types::{Base, Geometry, Header, NoMemory, Record, same_record};
 use std::alloc::Global;
 
@@ -60,7 +60,7 @@ fn whole_from(alloc: Global, lane: &Lane, base: &Base, way: &Way) -> Result<Opti
     if header.seq != way.at {
         return Ok(None);
     }
-    replay(
+    whole_after(
         alloc,
         &lane.geometry,
         base,

@@ -1,16 +1,17 @@
 //! Which records and bases count.
-ghost use Rattle.std.specs.Prelude.{◌≡◌, ◌&&◌, ◌==◌, ◌^◌, nat_lt, nat_le, length, map, None, IfOk, bytes_eq};
+ghost use Rattle.std.specs.Prelude.{◌≡◌, ◌&&◌, ◌==◌, ◌^◌, nat_lt, nat_le, length, map, None, IfOk, IfSome, IsTrue, bytes_eq};
 ghost use Rattle.std.specs.List.{list_all};
 ghost use Rattle.salus_types.specs.Volume.{regions, region_blocks};
 ghost use Rattle.merkle_region.specs.Tree.{root_of};
 ghost use Rattle.client_tag.specs.Ranges.{IsRecord};
 ghost use Rattle.holding_model.specs.Fitting.{ascends_from, has_shape, record_fits, writes_fit};
 ghost use Rattle.volume_model.specs.Recovering.{base_counts, header_fits, record_counts};
+ghost use Rattle.restart_pool.specs.Kept.{HasRoot};
 
 use client_tag::is_genuine;
 use merkle_region::root;
 use salus_hash::HmacKey;
-use salus_types::{Base, Bytes, Geometry, Header, NoMemory, PlaceWrite, Record};
+use salus_types::{Base, Bytes, Geometry, Header, NoMemory, PlaceWrite, Record, same_blocks};
 use std::alloc::Global;
 
 /// The greatest number that a record may have.
@@ -100,7 +101,7 @@ pub fn record_counts(
     is_genuine(alloc, key, rec)
 }
 
-/// Whether the base has a block for each place, and its record's root.
+/// Whether the base has a block for each place, and its record's root: its blocks are hashed.
 fn has_root(geometry: &Geometry, base: &Base) -> bool
     ensures { result ≡ has_shape geometry.now base.now.blocks && bytes_eq (root_of geometry.now.height base.now.blocks) base.now.rec.header.root }
 {
@@ -108,18 +109,40 @@ fn has_root(geometry: &Geometry, base: &Base) -> bool
     has_shape(geometry, blocks) && root(geometry.height(), blocks) == base.rec.header.root
 }
 
-/// Whether the base counts: its record does, and its blocks have that record's root.
+/// Whether the base has the blocks of the other one, and its record names the same root.
+fn is_like(base: &Base, other: &Base) -> bool
+    ensures { IsTrue result → (base.now.blocks ≡ other.now.blocks) × (base.now.rec.header.root ≡ other.now.rec.header.root) }
+{
+    base.rec.header.root == other.rec.header.root && same_blocks(&base.blocks, &other.blocks)
+}
+
+/// Whether the base has a block for each place, and its record's root. Blocks that equal those of a base that has it aren't
+/// hashed again.
+fn has_root_by(geometry: &Geometry, base: &Base, kept: Option<&Base>) -> bool
+    requires { IfSome kept (λ other. HasRoot geometry.now other.now) }
+    ensures { result ≡ has_shape geometry.now base.now.blocks && bytes_eq (root_of geometry.now.height base.now.blocks) base.now.rec.header.root }
+{
+    match kept {
+        Some(other) => is_like(base, other) || has_root(geometry, base),
+        None => has_root(geometry, base),
+    }
+}
+
+/// Whether the base counts: its record does, and its blocks have that record's root. Blocks that equal those of a base that
+/// has it aren't hashed again.
 pub fn base_counts(
     alloc: Global,
     geometry: &Geometry,
     key: &HmacKey,
     base: &Base,
+    kept: Option<&Base>,
 ) -> Result<bool, NoMemory>
-    requires { IsRecord base.now.rec }
+    requires record { IsRecord base.now.rec }
+    requires kept { IfSome kept (λ other. HasRoot geometry.now other.now) }
     ensures { IfOk result (λ yes. yes ≡ base_counts geometry.now key.now base.now) }
 {
     if !record_counts(alloc, geometry, key, &base.rec)? {
         return Ok(false);
     }
-    Ok(has_root(geometry, base))
+    Ok(has_root_by(geometry, base, kept))
 }

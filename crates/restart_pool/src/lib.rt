@@ -14,4 +14,5 @@ mod index;
 mod pool;
 mod replay;
 
+pub use assemble::Contents;
 pub use pool::Pool;

@@ -1,13 +1,13 @@
-ghost use Rattle.std.specs.Prelude.{◌≡◌, ◌<◌, IfOk, OnOk, OnErr};
+ghost use Rattle.std.specs.Prelude.{◌≡◌, ◌<◌, IfOk, IfSome, OnOk, OnErr, option_copied, slice_get};
 ghost use Rattle.client_tag.specs.Ranges.{IsRecord};
 ghost use Rattle.restart_pool.specs.Following.{IsLane, seen};
-ghost use Rattle.restart_pool.specs.Kept.{nothing_kept, with_base, with_part, IsSound};
+ghost use Rattle.restart_pool.specs.Kept.{nothing_kept, with_base, with_part, HasRoot, IsSound};
 
 use crate::chain::Lane;
 use crate::counting::{base_counts, record_counts};
 use crate::grow::put;
 use crate::index::NumberIndex;
-use salus_hash::HmacKey;
+use salus_hash::{Digest, HmacKey};
 use salus_types::{Base, Geometry, Header, NoMemory, Record, TryClone};
 use std::alloc::Global;
 use std::marker::Model;
@@ -22,6 +22,23 @@ pub struct Pool {
     headers: Vec<Header>,
     /// The numbers of the parts.
     index: NumberIndex,
+    /// The first bytes of the bases' roots.
+    roots: NumberIndex,
+}
+
+/// The number that the first eight bytes of a root spell.
+fn root_number(root: &Digest) -> u64 {
+    let bytes = root.as_bytes();
+    u64::from_be_bytes([
+        bytes[0], bytes[1], bytes[2], bytes[3], bytes[4], bytes[5], bytes[6], bytes[7],
+    ])
+}
+
+/// The base at this place.
+fn base_at(bases: &[Base], place: usize) -> Option<&Base>
+    ensures { option_copied result ≡ slice_get bases.now place }
+{
+    bases.get(place)
 }
 
 impl Model for Pool {
@@ -45,6 +62,7 @@ impl Pool {
             parts: Vec::new(alloc),
             headers: Vec::new(alloc),
             index: NumberIndex::new(alloc),
+            roots: NumberIndex::new(alloc),
         }
     }
 
@@ -74,19 +92,31 @@ impl Pool {
         Ok(())
     }
 
-    /// Keeps the base if it counts. After an error the pool is as it was.
+    /// The last kept base whose root begins as this one does, if there is one.
+    fn base_like(&self, root: &Digest) -> Option<&Base>
+        ensures { IfSome result (λ base. HasRoot self.now.shape base.now) }
+    {
+        match self.roots.last(root_number(root)) {
+            Some(place) => base_at(self.bases.as_slice(), place),
+            None => None,
+        }
+    }
+
+    /// Keeps the base if it counts. Equal blocks of several replicas are hashed once. After an error the pool is as it was.
     pub fn add_base(&mut self, alloc: Global, key: &HmacKey, base: &Base) -> Result<(), NoMemory>
         requires { IsRecord base.now.rec }
         ensures ok { OnOk result (self.new ≡ with_base key.now self.old base.now) }
         ensures err { OnErr result (self.new ≡ self.old) }
     {
-        if !base_counts(alloc, &self.geometry, key, base)? {
+        let like = self.base_like(&base.rec.header.root);
+        if !base_counts(alloc, &self.geometry, key, base, like)? {
             return Ok(());
         }
         let header = base.rec.header.try_clone(alloc)?;
         let copy = base.try_clone(alloc)?;
         self.headers.reserve(1)?;
         self.bases.reserve(1)?;
+        self.roots.push(root_number(&base.rec.header.root))?;
         put(&mut self.headers, header);
         put(&mut self.bases, copy);
         Ok(())

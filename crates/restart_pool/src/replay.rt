@@ -4,6 +4,7 @@ ghost use Rattle.holding_model.specs.Fitting.{blocks_after, blocks_written, has_
 ghost use Rattle.volume_model.specs.Recovering.{base_end, is_link};
 ghost use Rattle.merkle_region.specs.Tree.{IsAmong};
 ghost use Rattle.restart_pool.specs.Following.{after_found, along, follow, whole_at};
+ghost use Rattle.restart_pool.specs.Kept.{HasRoot};
 
 use merkle_region::Tree;
 use salus_hash::Digest;
@@ -37,6 +38,16 @@ fn put_writes(alloc: Global, tree: &mut Tree, writes: &[PlaceWrite]) -> Result<(
         put_write(alloc, tree, write)?;
     }
     Ok(())
+}
+
+/// The blocks of a base with their root, which its record names.
+fn whole_of(alloc: Global, base: &Base) -> Result<Whole, NoMemory>
+    ensures { IfOk result (λ whole. (whole.root ≡ base.now.rec.header.root) × (whole.blocks ≡ base.now.blocks)) }
+{
+    Ok(Whole {
+        root: base.rec.header.root,
+        blocks: base.blocks.try_clone(alloc)?,
+    })
 }
 
 /// Whether the part can link to a chain that goes up to `at`.
@@ -104,7 +115,7 @@ fn follow_part(
 
 /// The blocks, with their root, of the chain that begins with this base and goes on with the parts at these places:
 /// None exactly where one of them doesn't link to the one before.
-pub fn replay(
+fn replay(
     alloc: Global,
     geometry: &Geometry,
     base: &Base,
@@ -128,4 +139,22 @@ pub fn replay(
         root: tree.root(),
         blocks: tree.into_blocks(),
     }))
+}
+
+/// The same of a base that has its record's root: the blocks of the base alone aren't hashed again.
+pub fn whole_after(
+    alloc: Global,
+    geometry: &Geometry,
+    base: &Base,
+    parts: &[Record],
+    later: &[usize],
+) -> Result<Option<Whole>, NoMemory>
+    requires rooted { HasRoot geometry.now base.now }
+    requires plain { (rec : Record) → IsAmong rec parts.now → rec.run ≡ None }
+    ensures { IfOk result (λ whole. whole ≡ option_map (whole_at geometry.now) (follow geometry.now (base_end base.now) (along parts.now later.now))) }
+{
+    if later.is_empty() {
+        return Ok(Some(whole_of(alloc, base)?));
+    }
+    replay(alloc, geometry, base, parts, later)
 }

@@ -14,13 +14,14 @@ use Rattle.salus_model.specs.declared.trace.TraceStep.{TraceStep}
 use Rattle.salus_model.specs.Following.{Posted, sent_by, loads, IsStep}
 use Rattle.salus_model.specs.Hearing.{news_of}
 use Rattle.client_rules.specs.State.{Client}
-use Rattle.client_rules.specs.Rules.{new_client, client_step, posted_letter}
+use Rattle.client_rules.specs.Rules.{client_step, posted_letter}
 use Rattle.client_premises.specs.Premises.{IsApart}
 use Rattle.client_premises.proofs.Along.{next, behind_map}
 use Rattle.posting.specs.Letters.{out_of_letter}
 use Rattle.posting.specs.Sendings.{out_of_sending}
 use Rattle.run_rules.specs.Knowing.{outs_to, LoadsRight}
 use Rattle.run_rules.specs.Running.{posts_between}
+use Rattle.run_rules.specs.Run.{First}
 use Rattle.run_rules.specs.Serving.{IsClientStep}
 use Rattle.law_ranged.specs.Ranging.{IsSentWithin}
 use Rattle.law_ranged.proofs.Bounded.{ClientFits}
@@ -58,41 +59,41 @@ is_step sent trace n party what new step posts adds front =
       loaded_then = adds.loaded_then;
     }
 
-module _ (volume : Volume) (limits : IsVolume volume.geometry) (posts sent : List Posted) (trace : List TraceStep) (told : List (List Line)) (step : TraceStep) (outs : List Out) where
+module _ (first : First) (volume : Volume) (limits : IsVolume volume.geometry) (posts sent : List Posted) (trace : List TraceStep) (told : List (List Line)) (step : TraceStep) (outs : List Out) where
   abbrev shape : Shape
   shape = volume.geometry
 
   -- of a node
   pub node_step : (n : ℕ) (name : NodeName) (what : Handed) → Adds sent trace n (sender.Node name) what (posts_by shape (sender.Node name) outs) step
       → IsFront (sent ++ posts_by shape (sender.Node name) outs) posts
-      → AreMade volume posts trace told
-      → ((known_at volume posts trace name).silent ≡ true → step.failed ≡ false)
-      → LoadsRight shape name.region posts (known_at volume posts trace name) step.handed step.failed step.loaded
-      → outs ≡ map out_of_sending (outs_to shape name.region posts (known_at volume posts trace name) step.handed step.failed)
-      → AreMade volume posts (trace ++ step ∷ []) (told ++ [] ∷ [])
+      → AreMade first volume posts trace told
+      → ((known_at first volume posts trace name).silent ≡ true → step.failed ≡ false)
+      → LoadsRight shape name.region posts (known_at first volume posts trace name) step.handed step.failed step.loaded
+      → outs ≡ map out_of_sending (outs_to shape name.region posts (known_at first volume posts trace name) step.handed step.failed)
+      → AreMade first volume posts (trace ++ step ∷ []) (told ++ [] ∷ [])
   node_step n name what adds front made quiet loads same =
       let new : List Posted = posts_by shape (sender.Node name) outs in
       let before = adds.before in
       let now = adds.now in
       let both = length-append sent new in
-      node_made volume posts trace step told made name adds.addressed (record {
+      node_made volume posts first trace step told made name adds.addressed (record {
         quiet = quiet;
         loads = loads;
         more = omega (arith, before, now, both);
         messages = ap (λ (k : ℕ). posts_between posts k step.sent) before
             ∙ (between_new sent new posts step.sent front now
-            ∙ node_posts shape name outs (outs_to shape name.region posts (known_at volume posts trace name) step.handed step.failed) same (node_within volume limits posts trace name step.handed step.failed));
+            ∙ node_posts shape name outs (outs_to shape name.region posts (known_at first volume posts trace name) step.handed step.failed) same (node_within volume limits posts first trace name step.handed step.failed));
       })
 
   -- of the client: P holds of it before the step, and Q after it
   pub client_made_by : (n b next_b : ℕ) (what : Handed) (said : List Line) (P Q : Client → Type 0) → Adds sent trace n sender.Client what (posts_by shape sender.Client outs) step
       → IsFront (sent ++ posts_by shape sender.Client outs) posts
-      → AreMade volume posts trace told
-      → OfClient volume posts trace (λ d. P d × ClientFits shape b d)
+      → AreMade first volume posts trace told
+      → OfClient first volume posts trace (λ d. P d × ClientFits shape b d)
       → step.failed ≡ false → step.loaded ≡ None
       → ((d : Client) → P d → IsApart volume d (news_of posts step) → Q (next volume posts d step) × (outs ≡ map out_of_letter (client_step volume posts d step).outs) × (said ≡ (client_step volume posts d step).lines))
       → ((d : Client) → ClientFits shape b d → ClientFits shape next_b (next volume posts d step) × AllByRecursion (IsSentWithin shape) (client_step volume posts d step).outs)
-      → AreMade volume posts (trace ++ step ∷ []) (told ++ said ∷ []) × OfClient volume posts (trace ++ step ∷ []) (λ d. Q d × ClientFits shape next_b d)
+      → AreMade first volume posts (trace ++ step ∷ []) (told ++ said ∷ []) × OfClient first volume posts (trace ++ step ∷ []) (λ d. Q d × ClientFits shape next_b d)
   client_made_by n b next_b what said P Q adds front made so_far calm unloaded answers fits =
       let new : List Posted = posts_by shape sender.Client outs in
       let before = adds.before in
@@ -103,13 +104,13 @@ module _ (volume : Volume) (limits : IsVolume volume.geometry) (posts sent : Lis
       → posts_between posts (sent_by (reverse trace)) step.sent ≡ map posted_letter (client_step volume posts d step).outs =
       λ d same within. ap (λ (k : ℕ). posts_between posts k step.sent) before ∙ (between_new sent new posts step.sent front now ∙ client_posts shape outs (client_step volume posts d step).outs same within) in
       let Before : Client → Type 0 = λ d. P d × ClientFits shape b d in (
-        client_made volume posts trace step told made said adds.addressed
-            (behind_map volume posts (new_client shape) trace Before
+        client_made volume posts first trace step told made said adds.addressed
+            (behind_map volume posts first.client trace Before
             (λ d. IsApart volume d (news_of posts step) → IsClientStep volume posts d (sent_by (reverse trace)) step × (said ≡ (client_step volume posts d step).lines))
             (λ d is apart.
             let answer = answers d is.0 apart in
             (record { calm = calm; unloaded = unloaded; more = up; messages = messages d answer.1 (fits d is.1).1 }, answer.2)) so_far),
-        client_next volume posts trace step (λ d. Q d × ClientFits shape next_b d)
-            (behind_map volume posts (new_client shape) trace Before (λ d. IsApart volume d (news_of posts step) → Q (next volume posts d step) × ClientFits shape next_b (next volume posts d step))
+        client_next volume posts first trace step (λ d. Q d × ClientFits shape next_b d)
+            (behind_map volume posts first.client trace Before (λ d. IsApart volume d (news_of posts step) → Q (next volume posts d step) × ClientFits shape next_b (next volume posts d step))
             (λ d is apart. ((answers d is.0 apart).0, (fits d is.1).0)) so_far),
       )

@@ -27,7 +27,8 @@ use Rattle.replica_rules.specs.Rules.{Sending, is_node}
 use Rattle.posting.specs.Letters.{out_of_letter}
 use Rattle.posting.specs.Sendings.{out_of_sending}
 use Rattle.run_rules.specs.Knowing.{KnownNode, fresh, known_to, outs_to}
-use Rattle.run_rules.specs.Running.{known_of, after, addresses, posted_by, formatted}
+use Rattle.run_rules.specs.Running.{known_of, after, addresses, posted_by}
+use Rattle.run_rules.specs.Run.{First}
 use Rattle.list_lemmas.proofs.Each.{either_way, all_map, all_then}
 use Rattle.list_lemmas.proofs.Tests.{way_with, and_left, and_right}
 use Rattle.law_ranged.specs.Ranging.{IsSentWithin}
@@ -105,11 +106,11 @@ module _ (volume : Volume) (limits : IsVolume volume.geometry) (posts : List Pos
       (known_led shape limits name.region posts known step.handed step.failed step.loaded led) led)
 
   -- a node's messages
-  pub node_within : (trace : List TraceStep) (name : NodeName) (what : Handed) (failed : Bool)
-      → AllByRecursion (λ s. IsPartyOfVolume shape s.to) (outs_to shape name.region posts (known_at volume posts trace name) what failed)
-  node_within trace name what failed =
-      outs_within shape limits name.region posts (known_at volume posts trace name) what failed
-      (led_after name (fresh shape name.region (formatted volume name)) trace (fresh_led shape limits name.region (formatted volume name)))
+  pub node_within : (first : First) (trace : List TraceStep) (name : NodeName) (what : Handed) (failed : Bool)
+      → AllByRecursion (λ s. IsPartyOfVolume shape s.to) (outs_to shape name.region posts (known_at first volume posts trace name) what failed)
+  node_within first trace name what failed =
+      outs_within shape limits name.region posts (known_at first volume posts trace name) what failed
+      (led_after name (fresh shape name.region (first.held name)) trace (fresh_led shape limits name.region (first.held name)))
 
   -- the client's
   module _ (b : ℕ) (some : 1 ≤ b) (small : b ≤ 2 ^ 33) where

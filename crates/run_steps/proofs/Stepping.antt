@@ -13,9 +13,10 @@ use Rattle.salus_model.specs.declared.trace.TraceStep.{TraceStep}
 use Rattle.salus_model.specs.Following.{Posted, sent_by}
 use Rattle.salus_model.specs.Hearing.{News, Silence, news_in, news_of}
 use Rattle.client_rules.specs.State.{Client}
-use Rattle.client_rules.specs.Rules.{new_client, told, client_step}
+use Rattle.client_rules.specs.Rules.{told, client_step}
 use Rattle.run_rules.specs.Knowing.{KnownNode, fresh}
-use Rattle.run_rules.specs.Running.{known_of, after, addresses, AllSteps, IsNodeStep, formatted}
+use Rattle.run_rules.specs.Running.{known_of, after, addresses, AllSteps, IsNodeStep}
+use Rattle.run_rules.specs.Run.{First}
 use Rattle.run_rules.specs.Running as nodes
 use Rattle.run_rules.specs.Serving.{IsClientStep}
 use Rattle.run_rules.specs.Serving as serving
@@ -90,54 +91,54 @@ module _ (volume : Volume) (posts : List Posted) where
 
   -- ---- one step more
 
-  module _ (trace : List TraceStep) (step : TraceStep) where
-    pub known_next : (name : NodeName) → known_at volume posts (trace ++ step ∷ []) name ≡ after shape posts name (known_at volume posts trace name) step
-    known_next name = known_push name (fresh shape name.region (formatted volume name)) trace step
+  module _ (first : First) (trace : List TraceStep) (step : TraceStep) where
+    pub known_next : (name : NodeName) → known_at first volume posts (trace ++ step ∷ []) name ≡ after shape posts name (known_at first volume posts trace name) step
+    known_next name = known_push name (fresh shape name.region (first.held name)) trace step
 
     -- the client behind the premise of the step
-    pub client_next : (P : Client → Type 0) → OfClient volume posts trace (λ d. IsApart volume d (news_of posts step) → P (next volume posts d step)) → OfClient volume posts (trace ++ step ∷ []) P
-    client_next P holds = one_behind volume posts (new_client shape) trace step P holds
+    pub client_next : (P : Client → Type 0) → OfClient first volume posts trace (λ d. IsApart volume d (news_of posts step) → P (next volume posts d step)) → OfClient first volume posts (trace ++ step ∷ []) P
+    client_next P holds = one_behind volume posts first.client trace step P holds
 
-    pub client_stays : (P : Client → Type 0) (name : NodeName) → step.party ≡ sender.Node name → OfClient volume posts trace P → OfClient volume posts (trace ++ step ∷ []) P
+    pub client_stays : (P : Client → Type 0) (name : NodeName) → step.party ≡ sender.Node name → OfClient first volume posts trace P → OfClient first volume posts (trace ++ step ∷ []) P
     client_stays P name party holds =
-        client_next P (behind_map volume posts (new_client shape) trace P (λ d. IsApart volume d (news_of posts step) → P (next volume posts d step))
+        client_next P (behind_map volume posts first.client trace P (λ d. IsApart volume d (news_of posts step) → P (next volume posts d step))
         (λ d is apart. subst P (sym (silent_next d step name party)) is) holds)
 
     -- the node that the step addresses goes by its rules; the others make no step
-    every_node : (name other : NodeName) → step.party ≡ sender.Node name → IsNodeStep shape posts name (known_at volume posts trace name) (sent_by (reverse trace)) step
-        → nodes.IsStepOf (addresses other step) shape posts other (known_at volume posts trace other) (sent_after volume posts 0 trace) step
+    every_node : (name other : NodeName) → step.party ≡ sender.Node name → IsNodeStep shape posts name (known_at first volume posts trace name) (sent_by (reverse trace)) step
+        → nodes.IsStepOf (addresses other step) shape posts other (known_at first volume posts trace other) (sent_after volume posts 0 trace) step
     every_node name other party right =
-        by_test (λ (t : Bool). nodes.IsStepOf t shape posts other (known_at volume posts trace other) (sent_after volume posts 0 trace) step) (addresses other step)
+        by_test (λ (t : Bool). nodes.IsStepOf t shape posts other (known_at first volume posts trace other) (sent_after volume posts 0 trace) step) (addresses other step)
         (λ here.
         let same : name ≡ other = one_node name other (sym (ap (λ (p : Sender). same_party p (sender.Node other)) party) ∙ here) in
-        subst (λ (k : ℕ). IsNodeStep shape posts other (known_at volume posts trace other) k step) (sym (sent_before trace))
-        (subst (λ (n : NodeName). IsNodeStep shape posts n (known_at volume posts trace n) (sent_by (reverse trace)) step) same right))
+        subst (λ (k : ℕ). IsNodeStep shape posts other (known_at first volume posts trace other) k step) (sym (sent_before trace))
+        (subst (λ (n : NodeName). IsNodeStep shape posts n (known_at first volume posts trace n) (sent_by (reverse trace)) step) same right))
         (λ other. tt)
 
-    no_node : (other : NodeName) → step.party ≡ sender.Client → nodes.IsStepOf (addresses other step) shape posts other (known_at volume posts trace other) (sent_after volume posts 0 trace) step
+    no_node : (other : NodeName) → step.party ≡ sender.Client → nodes.IsStepOf (addresses other step) shape posts other (known_at first volume posts trace other) (sent_after volume posts 0 trace) step
     no_node other party =
-        subst (λ (p : Sender). nodes.IsStepOf (same_party p (sender.Node other)) shape posts other (known_at volume posts trace other) (sent_after volume posts 0 trace) step) (sym party) tt
+        subst (λ (p : Sender). nodes.IsStepOf (same_party p (sender.Node other)) shape posts other (known_at first volume posts trace other) (sent_after volume posts 0 trace) step) (sym party) tt
 
-    module _ (said : List (List Line)) (made : AreMade volume posts trace said) where
-      pub node_made : (name : NodeName) → step.party ≡ sender.Node name → IsNodeStep shape posts name (known_at volume posts trace name) (sent_by (reverse trace)) step
-          → AreMade volume posts (trace ++ step ∷ []) (said ++ [] ∷ [])
+    module _ (said : List (List Line)) (made : AreMade first volume posts trace said) where
+      pub node_made : (name : NodeName) → step.party ≡ sender.Node name → IsNodeStep shape posts name (known_at first volume posts trace name) (sent_by (reverse trace)) step
+          → AreMade first volume posts (trace ++ step ∷ []) (said ++ [] ∷ [])
       node_made name party right = record {
-        nodes = λ other. steps_push other (fresh shape other.region (formatted volume other)) 0 trace step (made.nodes other) (every_node name other party right);
-        client = one_step volume posts (new_client shape) 0 trace step made.client
-            (behind_all (new_client shape) trace _ (λ d apart. subst (λ (p : Sender). serving.IsStepOf (is_client p) volume posts d (sent_after volume posts 0 trace) step) (sym party) tt));
-        lines = one_line volume posts (new_client shape) trace step said [] made.lines (behind_all (new_client shape) trace _ (λ d apart. silent_lines d step name party));
+        nodes = λ other. steps_push other (fresh shape other.region (first.held other)) 0 trace step (made.nodes other) (every_node name other party right);
+        client = one_step volume posts first.client 0 trace step made.client
+            (behind_all first.client trace _ (λ d apart. subst (λ (p : Sender). serving.IsStepOf (is_client p) volume posts d (sent_after volume posts 0 trace) step) (sym party) tt));
+        lines = one_line volume posts first.client trace step said [] made.lines (behind_all first.client trace _ (λ d apart. silent_lines d step name party));
       }
 
       pub client_made : (l : List Line) → step.party ≡ sender.Client
-          → OfClient volume posts trace (λ d. IsApart volume d (news_of posts step) → IsClientStep volume posts d (sent_by (reverse trace)) step × (l ≡ (client_step volume posts d step).lines))
-          → AreMade volume posts (trace ++ step ∷ []) (said ++ l ∷ [])
+          → OfClient first volume posts trace (λ d. IsApart volume d (news_of posts step) → IsClientStep volume posts d (sent_by (reverse trace)) step × (l ≡ (client_step volume posts d step).lines))
+          → AreMade first volume posts (trace ++ step ∷ []) (said ++ l ∷ [])
       client_made l party right = record {
-        nodes = λ other. steps_push other (fresh shape other.region (formatted volume other)) 0 trace step (made.nodes other) (no_node other party);
-        client = one_step volume posts (new_client shape) 0 trace step made.client
-            (behind_map volume posts (new_client shape) trace _ (λ d. IsApart volume d (news_of posts step) → serving.IsStepOf (is_client step.party) volume posts d (sent_after volume posts 0 trace) step)
+        nodes = λ other. steps_push other (fresh shape other.region (first.held other)) 0 trace step (made.nodes other) (no_node other party);
+        client = one_step volume posts first.client 0 trace step made.client
+            (behind_map volume posts first.client trace _ (λ d. IsApart volume d (news_of posts step) → serving.IsStepOf (is_client step.party) volume posts d (sent_after volume posts 0 trace) step)
             (λ d holds apart.
             subst (λ (p : Sender). serving.IsStepOf (is_client p) volume posts d (sent_after volume posts 0 trace) step) (sym party)
             (subst (λ (k : ℕ). IsClientStep volume posts d k step) (sym (sent_before trace)) (holds apart).0)) right);
-        lines = one_line volume posts (new_client shape) trace step said l made.lines
-            (behind_map volume posts (new_client shape) trace _ (λ d. IsApart volume d (news_of posts step) → l ≡ (client_step volume posts d step).lines) (λ d holds apart. (holds apart).1) right);
+        lines = one_line volume posts first.client trace step said l made.lines
+            (behind_map volume posts first.client trace _ (λ d. IsApart volume d (news_of posts step) → l ≡ (client_step volume posts d step).lines) (λ d holds apart. (holds apart).1) right);
       }

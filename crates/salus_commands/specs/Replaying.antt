@@ -9,16 +9,21 @@ use Rattle.salus_model.specs.declared.trace.TraceStep.{TraceStep}
 use Rattle.salus_model.specs.Following.{Posted, posts_of, Follows}
 use Rattle.salus_model.specs.Judge.{LegalHistory, KeepsAcknowledged}
 use Rattle.salus_model.specs.Guarding.{Guarded}
-use Rattle.salus_model.specs.Due.{lines_due, lines_from}
+use Rattle.salus_model.specs.Due.{lines_due, lines_from, history_from}
+use Rattle.salus_model.specs.Quiet.{Quiet}
 use Rattle.salus_model.specs.Seen.{NoCollision}
 use Rattle.salus_model.specs.Forgery.{NoForgery}
+use Rattle.salus_model.specs.Complete.{ReadsBesideLies}
 use Rattle.client_rules.specs.Rules.{new_client}
 use Rattle.run_rules.specs.Running.{NodesByRules, formatted}
 use Rattle.run_rules.specs.Serving.{ClientByRules}
 use Rattle.run_rules.specs.Calm.{Calm}
+use Rattle.run_rules.specs.Rooms.{rooms_of}
 use Rattle.client_premises.specs.Behind.{ClientStepsBehind, LinesBehind}
 use Rattle.law_lines.specs.Running.{told_pasts}
 use Rattle.law_kept.specs.Losing.{NoneIsLost}
+use Rattle.law_covered.specs.Coverage.{CoveredThroughout}
+use Rattle.law_opens.specs.Opening.{LastOpens}
 use Rattle.salus_commands.specs.declared.report.Report.{Report}
 
 abbrev pub empty_report : Report
@@ -46,6 +51,15 @@ pub record IsRun (volume : Volume) (events : List Event) (posts : List Posted) (
   -- front part of the last list that has every acknowledged batch, and none is lost.
   pub kept : NoCollision volume events posts trace → NoForgery volume events posts trace → Guarded volume events posts trace
       → KeepsAcknowledged volume.geometry events lines × NoneIsLost lines
+  -- So it is because at every step the disks of the nodes that count have all that was acknowledged or claimed.
+  pub covered : NoCollision volume events posts trace → NoForgery volume events posts trace → Guarded volume events posts trace → CoveredThroughout volume events posts trace
+  -- A read of a block whose group has a sound server, whatever the others do, ends with its block once every message between that
+  -- server and the client was taken, if no lie carries the client's name and the client doesn't crash before.
+  pub reads : NoCollision volume events posts trace → NoForgery volume events posts trace → ReadsBesideLies volume events posts (rooms_of volume.geometry posts (formatted volume)) trace
+  -- In a quiet run, of requests, deliveries, ticks and crashes of the client alone, in which every message was handed over by the end,
+  -- the last session that the client took a request to open since its last crash was opened.
+  pub opens : NoCollision volume events posts trace → NoForgery volume events posts trace → Quiet events posts trace
+      → LastOpens volume.geometry events (history_from volume events posts [] trace)
   -- Where no event asks to open a session, the first two need no premise on tags.
   pub closed_by_rules : sessions_of events ≡ [] → NoCollision volume events posts trace → ClientByRules volume (new_client volume.geometry) posts trace
   pub closed_exact : sessions_of events ≡ [] → NoCollision volume events posts trace → lines ≡ lines_due volume events posts trace

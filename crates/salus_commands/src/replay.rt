@@ -4,8 +4,11 @@ ghost use Rattle.salus_commands.specs.Replaying.{Replays};
 
 use crate::report::Report;
 use law_apart::runs_are_apart;
+use law_covered::counting_nodes_cover;
 use law_gathered::every_run_is_apart;
 use law_kept::nothing_acknowledged_is_lost;
+use law_opens::last_session_opens;
+use law_served::reads_end_beside_every_lie;
 use law_whole::runs_by_rules_are_legal;
 use salus_types::NoMemory;
 use salus_world::run_schedule;
@@ -22,6 +25,9 @@ pub(crate) fn replay(alloc: Global, schedule: Schedule) -> Result<Report, NoMemo
     runs_are_apart();
     runs_by_rules_are_legal();
     nothing_acknowledged_is_lost();
+    counting_nodes_cover();
+    reads_end_beside_every_lie();
+    last_session_opens();
     let ran = run_schedule(alloc, schedule)?;
     Ok(Report {
         lines: ran.lines,

@@ -1,4 +1,5 @@
 use crate::names::{put_message, put_node, put_party, told_word};
+use disk_model::MemDisk;
 use salus_types::{NoMemory, Sender};
 use salus_world::World;
 use schedule_text::Event;
@@ -6,7 +7,7 @@ use std::alloc::Global;
 use text_words::{put, put_hex, put_number};
 
 /// Message number `message`, as far as it is sent.
-fn put_sent(out: &mut Vec<u8>, world: &World, message: u64) -> Result<(), NoMemory> {
+fn put_sent(out: &mut Vec<u8>, world: &World<MemDisk>, message: u64) -> Result<(), NoMemory> {
     let number = message as usize;
     if number == 0 || number > world.sent().len() {
         return put_number(out, b"#", message);
@@ -24,7 +25,7 @@ fn put_lie(alloc: Global, out: &mut Vec<u8>, from: Sender, bytes: &[u8]) -> Resu
 
 fn put_stop(
     out: &mut Vec<u8>,
-    world: &World,
+    world: &World<MemDisk>,
     message: u64,
     calls: u64,
     keep: u64,
@@ -45,7 +46,7 @@ fn put_image(out: &mut Vec<u8>, keep: u64, fill: u8) -> Result<(), NoMemory> {
 pub fn put_event(
     alloc: Global,
     out: &mut Vec<u8>,
-    world: &World,
+    world: &World<MemDisk>,
     event: &Event,
 ) -> Result<(), NoMemory> {
     match event {

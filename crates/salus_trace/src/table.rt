@@ -4,6 +4,7 @@ ghost use Rattle.salus_world.specs.Kept.{IsOngoing};
 
 use crate::cells::{DISK, HANDED, LINES, PARTY, SENT, put_cell};
 use crate::names::{kind_word, put_party};
+use disk_model::MemDisk;
 use printed_lines::write_line;
 use salus_model::Sent;
 use salus_types::{NoMemory, NodeName, Sender};
@@ -83,7 +84,7 @@ fn put_sent(out: &mut Vec<u8>, messages: &[Sent], from: usize) -> Result<(), NoM
 // What a node's disk held when it was loaded; or that a call of it failed, since when the node is silent.
 fn put_node_disk(
     out: &mut Vec<u8>,
-    world: &World,
+    world: &World<MemDisk>,
     name: NodeName,
     loads: bool,
 ) -> Result<(), NoMemory>
@@ -110,7 +111,7 @@ fn put_node_disk(
 
 fn put_disk(
     out: &mut Vec<u8>,
-    world: &World,
+    world: &World<MemDisk>,
     party: Option<Sender>,
     loads: bool,
 ) -> Result<(), NoMemory>
@@ -125,7 +126,7 @@ fn put_disk(
 }
 
 // The lines from that index on, in one cell.
-fn put_lines(out: &mut Vec<u8>, world: &World, from: usize) -> Result<(), NoMemory> {
+fn put_lines(out: &mut Vec<u8>, world: &World<MemDisk>, from: usize) -> Result<(), NoMemory> {
     let lines = world.lines();
     'lines: for index in from..lines.len() {
         if index > from {
@@ -141,7 +142,7 @@ fn put_lines(out: &mut Vec<u8>, world: &World, from: usize) -> Result<(), NoMemo
 pub fn put_row(
     alloc: Global,
     table: &mut Vec<u8>,
-    world: &World,
+    world: &World<MemDisk>,
     begun: &Begun,
 ) -> Result<(), NoMemory>
     requires kept { IsOngoing world.now }

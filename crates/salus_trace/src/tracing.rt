@@ -7,12 +7,14 @@ ghost use Rattle.schedule_text.specs.Limits.{IsEventWithin, IsPartyOfVolume, IsW
 ghost use Rattle.salus_model.specs.Judge.{event_at};
 ghost use Rattle.run_course.specs.Course.{no_course};
 ghost use Rattle.salus_world.specs.Kept.{IsKept, IsOngoing};
+ghost use Rattle.salus_world.specs.Runs.{formatted_origin};
 ghost use Rattle.salus_trace.specs.Before.{IsBefore};
 
 use crate::describing::put_event;
 use crate::names::put_message;
 use crate::table::{Begun, heading, put_row};
 use crate::words::Span;
+use disk_model::MemDisk;
 use salus_model::Sent;
 use salus_types::{NoMemory, Sender};
 use salus_world::World;
@@ -27,7 +29,7 @@ fn message_at(messages: &[Sent], index: usize) -> Option<&Sent>
 }
 
 /// The receiver of that message, if it is sent.
-fn receiver(world: &World, message: u64) -> Option<Sender>
+fn receiver(world: &World<MemDisk>, message: u64) -> Option<Sender>
     requires { IsOngoing world.now }
     ensures { IfSome result (IsPartyOfVolume world.now.geometry) }
 {
@@ -41,7 +43,7 @@ fn receiver(world: &World, message: u64) -> Option<Sender>
 }
 
 /// The node that a stop of that message addresses.
-fn stopped(world: &World, message: u64) -> Option<Sender>
+fn stopped(world: &World<MemDisk>, message: u64) -> Option<Sender>
     requires { IsOngoing world.now }
     ensures { IfSome result (IsPartyOfVolume world.now.geometry) }
 {
@@ -53,7 +55,7 @@ fn stopped(world: &World, message: u64) -> Option<Sender>
 }
 
 /// Whom an event addresses; no one, where it makes no step.
-fn party_of(world: &World, event: &Event) -> Option<Sender>
+fn party_of(world: &World<MemDisk>, event: &Event) -> Option<Sender>
     requires kept { IsOngoing world.now }
     requires within { IsEventWithin world.now.geometry event.now }
     ensures { IfSome result (IsPartyOfVolume world.now.geometry) }
@@ -87,7 +89,7 @@ fn loads(event: &Event) -> bool {
 fn trace_one(
     alloc: Global,
     table: &mut Vec<u8>,
-    world: &mut World,
+    world: &mut World<MemDisk>,
     number: u64,
     event: Event,
 ) -> Result<(), NoMemory>
@@ -112,7 +114,7 @@ fn trace_one(
 }
 
 /// The text of that message, if it is sent.
-fn message_text(alloc: Global, world: &World, message: u64) -> Result<Vec<u8>, NoMemory> {
+fn message_text(alloc: Global, world: &World<MemDisk>, message: u64) -> Result<Vec<u8>, NoMemory> {
     let mut text = Vec::new(alloc);
     if message > 0 {
         match world.sent().get((message - 1) as usize) {
@@ -127,7 +129,7 @@ fn message_text(alloc: Global, world: &World, message: u64) -> Result<Vec<u8>, N
 fn put_delivery(
     alloc: Global,
     table: &mut Vec<u8>,
-    world: &World,
+    world: &World<MemDisk>,
     number: u64,
     message: u64,
     sent: usize,
@@ -152,7 +154,7 @@ fn put_delivery(
 fn trace_next(
     alloc: Global,
     table: &mut Vec<u8>,
-    world: &mut World,
+    world: &mut World<MemDisk>,
     number: u64,
     shown: bool,
 ) -> Result<bool, NoMemory>
@@ -177,7 +179,7 @@ fn trace_next(
 fn trace_settle(
     alloc: Global,
     table: &mut Vec<u8>,
-    world: &mut World,
+    world: &mut World<MemDisk>,
     number: u64,
     count: u64,
     shown: bool,
@@ -197,7 +199,7 @@ fn trace_settle(
 fn trace_event(
     alloc: Global,
     table: &mut Vec<u8>,
-    world: &mut World,
+    world: &mut World<MemDisk>,
     number: u64,
     event: Event,
     shown: bool,
@@ -223,11 +225,11 @@ fn trace_event(
 fn trace_events(
     alloc: Global,
     table: &mut Vec<u8>,
-    world: &mut World,
+    world: &mut World<MemDisk>,
     events: Vec<Event>,
     span: Span,
 ) -> Result<(), NoMemory>
-    requires kept { (volume : AnyVolume) × IsKept volume events.items 1 1 world.old no_course }
+    requires kept { (volume : AnyVolume) × IsKept (formatted_origin volume) volume events.items 1 1 world.old no_course }
     requires within { AllByRecursion (IsEventWithin world.old.geometry) events.items }
     requires few { length events.items ≤ 65536 }
 {
@@ -245,7 +247,7 @@ pub fn trace_schedule(alloc: Global, schedule: Schedule, span: Span) -> Result<V
 {
     let Schedule { volume, events } = schedule;
     let mut table = heading(alloc)?;
-    let mut world = World::new(alloc, &volume)?;
+    let mut world = World::in_memory(alloc, &volume)?;
     trace_events(alloc, &mut table, &mut world, events.into_vec(), span)?;
     Ok(table)
 }

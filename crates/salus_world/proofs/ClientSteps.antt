@@ -31,8 +31,9 @@ use Rattle.law_ranged.proofs.Opened.{NewsWithin}
 use Rattle.client_asking.specs.declared.step.Step.{Step}
 use Rattle.client_node.specs.declared.node.ClientNode.{ClientNode}
 use Rattle.client_node.specs.Standing.{IsClient, shape_of, newest_of, IsTold}
-use Rattle.mem_node.specs.declared.node.MemNode.{MemNode}
-use Rattle.mem_node.specs.Fitting.{Fits}
+use Rattle.disk_model.specs.declared.disk.Disk.{Ghosts}
+use Rattle.disk_node.specs.declared.node.DiskNode.{DiskNode}
+use Rattle.disk_node.specs.Fitting.{Fits}
 use Rattle.unanimous_certificate.specs.Kept.{node_place}
 use Rattle.run_steps.specs.Steps.{IsFront, known_at, with_step}
 use Rattle.run_steps.specs.Waiting.{AreMarked}
@@ -45,7 +46,7 @@ use Rattle.run_steps.proofs.Making.{Adds, is_step, client_made_by}
 use Rattle.salus_world.specs.declared.world.World.{World}
 use Rattle.salus_world.specs.Places.{FitAll, SureAll}
 use Rattle.salus_world.specs.Growing.{marks_of}
-use Rattle.salus_world.specs.Kept.{IsRun, IsKept, HasStepped}
+use Rattle.salus_world.specs.Kept.{Origin, IsRun, IsKept, HasStepped}
 
 -- what the client and its messages and lines are after a step, if it was that client before it
 abbrev pub IsAnswer : Volume → List Posted → TraceStep → ClientNode → List Out → List Line → Client → Type 0
@@ -56,7 +57,7 @@ IsAnswer volume posts step node outs said d =
 abbrev pub StaysFit : Volume → List Posted → TraceStep → ℕ → Client → Type 0
 StaysFit volume posts step b d = ClientFits volume.geometry b (next volume posts d step) × AllByRecursion (IsSentWithin volume.geometry) (client_step volume posts d step).outs
 
-module _ (volume : Volume) (all : List Event) (b next_b n : ℕ) (old new : World) (c : Course) (kept : IsKept volume all b n old c) (what : Handed) (outs : List Out) (said : List Line) where
+module _ {D : Type 0} {g : Ghosts D} {lane : _} (origin : Origin) (volume : Volume) (all : List Event) (b next_b n : ℕ) (old new : World D g lane) (c : Course) (kept : IsKept origin volume all b n old c) (what : Handed) (outs : List Out) (said : List Line) where
   abbrev shape : Shape
   shape = volume.geometry
 
@@ -101,25 +102,25 @@ module _ (volume : Volume) (all : List Event) (b next_b n : ℕ) (old new : Worl
       front_old : IsFront sent posts
       front_old = front_before sent added posts front_now
 
-      run : IsRun volume b c.trace c.told old.nodes.items old.client posts
+      run : IsRun origin.first volume b c.trace c.told old.nodes.items old.client posts
       run = kept.runs posts front_old
 
-      fit_all : FitAll shape (known_at volume posts trace_now) new.nodes.items
-      fit_all = λ name of node at. subst (λ k. Fits shape name k node) (sym (known_next volume posts c.trace the_step name))
-          (run.nodes_fit name of node (subst (λ (l : List MemNode). slice_get l (node_place shape name) ≡ Some node) nodes_same at))
+      fit_all : FitAll shape (known_at origin.first volume posts trace_now) new.nodes.items
+      fit_all = λ name of node at. subst (λ k. Fits shape name k node) (sym (known_next volume posts origin.first c.trace the_step name))
+          (run.nodes_fit name of node (subst (λ (l : List (DiskNode D g lane)). slice_get l (node_place shape name) ≡ Some node) nodes_same at))
 
-      run_now : IsRun volume next_b trace_now (c.told ++ said ∷ []) new.nodes.items new.client posts
+      run_now : IsRun origin.first volume next_b trace_now (c.told ++ said ∷ []) new.nodes.items new.client posts
       run_now =
-          let both = client_made_by volume kept.limits posts sent c.trace c.told the_step outs n b next_b what said (λ d. IsClient old.client volume d) (λ d. IsClient new.client volume d)
+          let both = client_made_by origin.first volume kept.limits posts sent c.trace c.told the_step outs n b next_b what said (λ d. IsClient old.client volume d) (λ d. IsClient new.client volume d)
           adds front_now run.made run.client_is refl refl (λ d is apart. answers posts front_old d is apart) (λ d f. fits posts front_old d f) in
           record { made = both.0; nodes_fit = fit_all; client_is = both.1 }
 
-    sure_now : SureAll shape (is_harmed all (the_step ∷ reverse c.trace) n) new.nodes.items
-    sure_now = λ name of node at calm.
-        kept.sure name of node (subst (λ (l : List MemNode). slice_get l (node_place shape name) ≡ Some node) nodes_same at)
+    sure_now : origin.sure ≡ true → SureAll shape (is_harmed all (the_step ∷ reverse c.trace) n) new.nodes.items
+    sure_now surely = λ name of node at calm.
+        kept.sure surely name of node (subst (λ (l : List (DiskNode D g lane)). slice_get l (node_place shape name) ≡ Some node) nodes_same at)
         (sym (harmed_still all (reverse c.trace) the_step n name (client_loads all the_step name refl)) ∙ calm)
 
-    pub client_kept : HasStepped volume all next_b n sender.Client what old new c
+    pub client_kept : HasStepped origin volume all next_b n sender.Client what old new c
     client_kept = record {
       step = the_step;
       said = said;
@@ -135,8 +136,8 @@ module _ (volume : Volume) (all : List Event) (b next_b n : ℕ) (old new : Worl
         within = subst (λ (l : List Posted). AllByRecursion (λ m. IsPartyOfVolume shape m.from × IsPartyOfVolume shape m.to) l) (sym posts_now)
             (all_both (λ m. IsPartyOfVolume shape m.from × IsPartyOfVolume shape m.to) sent added kept.within (posts_within shape sender.Client outs tt));
         marked = subst (λ (l : List TraceStep). AreMarked l c.dropped new.lowest (marks_of new.sent.items)) (sym back) marked_now;
-        calm = calm_next all c.trace the_step kept.calm (λ fails. absurd (cc));
-        sure = subst (λ (l : List TraceStep). SureAll shape (is_harmed all l n) new.nodes.items) (sym back) sure_now;
+        calm = λ surely. calm_next all c.trace the_step (kept.calm surely) (λ fails. absurd (cc));
+        sure = λ surely. subst (λ (l : List TraceStep). SureAll shape (is_harmed all l n) new.nodes.items) (sym back) (sure_now surely);
         numbered = subst (λ (l : List TraceStep). AllByRecursion (λ s. s.event ≤ n) l) (sym back) (omega arith, kept.numbered);
         lines = lines_now ∙ ap (λ (l : List Line). l ++ said) kept.lines;
         geometry = geometry_same ∙ kept.geometry;

@@ -5,3 +5,6 @@ pub mod Doing
 pub mod Mailing
 pub mod Acting
 pub mod Finishing
+pub mod Splitting
+pub mod Refused
+pub mod Empty

@@ -34,9 +34,10 @@ use Rattle.list_lemmas.proofs.Each.{all_both}
 use Rattle.client_node.specs.declared.node.ClientNode.{ClientNode}
 use Rattle.client_node.specs.Standing.{IsClient, shape_of, newest_of}
 use Rattle.law_ranged.proofs.Bounded.{ClientFits}
-use Rattle.mem_node.specs.declared.node.MemNode.{MemNode}
-use Rattle.mem_node.specs.declared.outcome.Outcome.{Outcome}
-use Rattle.mem_node.specs.Fitting.{Fits, IsUnharmed, IsAnswered, IsStopped, IsReloaded, held_in}
+use Rattle.disk_model.specs.declared.disk.Disk.{Ghosts}
+use Rattle.disk_node.specs.declared.node.DiskNode.{DiskNode}
+use Rattle.disk_node.specs.declared.outcome.Outcome.{Outcome}
+use Rattle.disk_node.specs.Fitting.{Fits, IsUnharmed, IsAnswered, IsStopped, IsReloaded, held_in}
 use Rattle.run_steps.specs.Steps.{IsFront, known_at, OfClient, with_step}
 use Rattle.run_steps.specs.Waiting.{AreMarked}
 use Rattle.run_steps.specs.Parties.{posts_by}
@@ -48,18 +49,18 @@ use Rattle.run_steps.proofs.Making.{Adds, is_step, node_step}
 use Rattle.salus_world.specs.declared.world.World.{World}
 use Rattle.salus_world.specs.Places.{FitAll, SureAll, ChangesAt}
 use Rattle.salus_world.specs.Growing.{marks_of}
-use Rattle.salus_world.specs.Kept.{IsRun, IsKept, HasStepped}
+use Rattle.salus_world.specs.Kept.{Origin, IsRun, IsKept, HasStepped}
 use Rattle.salus_world.proofs.Seats.{count_stays, changed_fits, changed_sure}
 
 -- ---- what is right for the node that the step addresses
 
-pub record IsRight (shape : Shape) (name : NodeName) (posts : List Posted) (known : KnownNode) (what : Handed) (failed : Bool) (loaded : Option Held) (outs : List Out) (node : MemNode) : Type 0 where
+pub record IsRight {D : Type 0} {g : Ghosts D} {lane : _} (shape : Shape) (name : NodeName) (posts : List Posted) (known : KnownNode) (what : Handed) (failed : Bool) (loaded : Option Held) (outs : List Out) (node : DiskNode D g lane) : Type 0 where
   pub fits : Fits shape name (known_to shape name.region posts known what failed loaded) node
   pub sends : outs ≡ map out_of_sending (outs_to shape name.region posts known what failed)
   pub quiet : known.silent ≡ true → failed ≡ false
   pub right : LoadsRight shape name.region posts known what failed loaded
 
-module _ (shape : Shape) (name : NodeName) (posts : List Posted) (known : KnownNode) (what : Handed) (input : Input) (given : input_of posts what ≡ Some input) (outcome : Outcome) (node : MemNode) where
+module _ {D : Type 0} {g : Ghosts D} {lane : _} (shape : Shape) (name : NodeName) (posts : List Posted) (known : KnownNode) (what : Handed) (input : Input) (given : input_of posts what ≡ Some input) (outcome : Outcome) (node : DiskNode D g lane) where
   pub right_input : LoadsRight shape name.region posts known what outcome.failed None → IsAnswered shape name known input outcome node → IsRight shape name posts known what outcome.failed None outcome.outs node
   right_input right a = record {
     fits = subst (λ (o : Option Input). Fits shape name (option_map_or (λ i. after_input shape name.region known i outcome.failed) o known) node) (sym given) a.fits;
@@ -80,10 +81,10 @@ module _ (shape : Shape) (name : NodeName) (posts : List Posted) (known : KnownN
     right = right;
   }
 
-pub right_crash : (shape : Shape) (name : NodeName) (posts : List Posted) (known : KnownNode) (node : MemNode) → IsReloaded shape name known node → IsRight shape name posts known handed.Crash false (Some (held_in node)) [] node
+pub right_crash : {D : Type 0} {g : Ghosts D} {lane : _} (shape : Shape) (name : NodeName) (posts : List Posted) (known : KnownNode) (node : DiskNode D g lane) → IsReloaded shape name known node → IsRight shape name posts known handed.Crash false (Some (held_in node)) [] node
 right_crash shape name posts known node r = record { fits = r.fits; sends = refl; quiet = λ silent. refl; right = (refl, r.among) }
 
-pub right_replace : (shape : Shape) (name : NodeName) (posts : List Posted) (known : KnownNode) (node : MemNode) → Fits shape name (fresh shape name.region nothing_held) node
+pub right_replace : {D : Type 0} {g : Ghosts D} {lane : _} (shape : Shape) (name : NodeName) (posts : List Posted) (known : KnownNode) (node : DiskNode D g lane) → Fits shape name (fresh shape name.region nothing_held) node
     → IsRight shape name posts known handed.Replace false (Some nothing_held) [] node
 right_replace shape name posts known node fits = record { fits = fits; sends = refl; quiet = λ silent. refl; right = (refl, refl) }
 
@@ -111,7 +112,7 @@ posted_sent sent i m at = got_map posted sent i m at
 
 -- ---- one step
 
-module _ (volume : Volume) (all : List Event) (b n : ℕ) (old new : World) (c : Course) (kept : IsKept volume all b n old c) (name : NodeName) (of : IsOfVolume volume.geometry name) (what : Handed) (failed : Bool) (loaded : Option Held) (outs : List Out) where
+module _ {D : Type 0} {g : Ghosts D} {lane : _} (origin : Origin) (volume : Volume) (all : List Event) (b n : ℕ) (old new : World D g lane) (c : Course) (kept : IsKept origin volume all b n old c) (name : NodeName) (of : IsOfVolume volume.geometry name) (what : Handed) (failed : Bool) (loaded : Option Held) (outs : List Out) where
   abbrev shape : Shape
   shape = volume.geometry
 
@@ -125,7 +126,7 @@ module _ (volume : Volume) (all : List Event) (b n : ℕ) (old new : World) (c :
   abbrev pub the_step : TraceStep
   the_step = record { event = n; party = sender.Node name; handed = what; sent = length (sent ++ added); failed = failed; loaded = loaded }
 
-  module _ (How : MemNode → MemNode → Type 0) (change : ChangesAt (node_place shape name) old.nodes.items new.nodes.items How) (loaded_then : is_some loaded ≡ loads what)
+  module _ (How : DiskNode D g lane → DiskNode D g lane → Type 0) (change : ChangesAt (node_place shape name) old.nodes.items new.nodes.items How) (loaded_then : is_some loaded ≡ loads what)
       (right : (posts : List Posted) (known : KnownNode) → IsFront sent posts → Fits shape name known change.was → IsRight shape name posts known what failed loaded outs change.is)
       (calm_here : (is_stop what ≡ true) ⊎ (IsUnharmed change.was → failed ≡ false))
       (sure_here : (loads what ≡ false → IsUnharmed change.was) → IsUnharmed change.is)
@@ -153,45 +154,45 @@ module _ (volume : Volume) (all : List Event) (b n : ℕ) (old new : World) (c :
       front_now : IsFront (sent ++ added) posts
       front_now = subst (λ (l : List Posted). IsFront l posts) posts_now front
 
-      run : IsRun volume b c.trace c.told old.nodes.items old.client posts
+      run : IsRun origin.first volume b c.trace c.told old.nodes.items old.client posts
       run = kept.runs posts (front_before sent added posts front_now)
 
       abbrev was_known : KnownNode
-      was_known = known_at volume posts c.trace name
+      was_known = known_at origin.first volume posts c.trace name
 
       answer : IsRight shape name posts was_known what failed loaded outs change.is
       answer = right posts was_known (front_before sent added posts front_now) (run.nodes_fit name of change.was change.there)
 
-      known_here : known_at volume posts trace_now name ≡ known_to shape name.region posts was_known what failed loaded
-      known_here = known_next volume posts c.trace the_step name ∙ ap (λ (t : Bool). if t then known_to shape name.region posts was_known what failed loaded else was_known) (same_name name)
+      known_here : known_at origin.first volume posts trace_now name ≡ known_to shape name.region posts was_known what failed loaded
+      known_here = known_next volume posts origin.first c.trace the_step name ∙ ap (λ (t : Bool). if t then known_to shape name.region posts was_known what failed loaded else was_known) (same_name name)
 
-      known_there : (other : NodeName) → same_node name other ≡ false → known_at volume posts trace_now other ≡ known_at volume posts c.trace other
+      known_there : (other : NodeName) → same_node name other ≡ false → known_at origin.first volume posts trace_now other ≡ known_at origin.first volume posts c.trace other
       known_there other differs =
-          known_next volume posts c.trace the_step other
-          ∙ ap (λ (t : Bool). if t then known_to shape other.region posts (known_at volume posts c.trace other) what failed loaded else known_at volume posts c.trace other) differs
+          known_next volume posts origin.first c.trace the_step other
+          ∙ ap (λ (t : Bool). if t then known_to shape other.region posts (known_at origin.first volume posts c.trace other) what failed loaded else known_at origin.first volume posts c.trace other) differs
 
-      run_now : IsRun volume b trace_now (c.told ++ [] ∷ []) new.nodes.items new.client posts
+      run_now : IsRun origin.first volume b trace_now (c.told ++ [] ∷ []) new.nodes.items new.client posts
       run_now = record {
-        made = node_step volume kept.limits posts sent c.trace c.told the_step outs n name what adds front_now run.made answer.quiet answer.right answer.sends;
-        nodes_fit = changed_fits shape old.nodes.items new.nodes.items name of How change (known_at volume posts c.trace) (known_at volume posts trace_now) run.nodes_fit
+        made = node_step origin.first volume kept.limits posts sent c.trace c.told the_step outs n name what adds front_now run.made answer.quiet answer.right answer.sends;
+        nodes_fit = changed_fits shape old.nodes.items new.nodes.items name of How change (known_at origin.first volume posts c.trace) (known_at origin.first volume posts trace_now) run.nodes_fit
             (subst (λ (k : KnownNode). Fits shape name k change.is) (sym known_here) answer.fits) known_there;
-        client_is = client_stays volume posts c.trace the_step (λ d. IsClient new.client volume d × ClientFits shape b d) name refl
-            (subst (λ (cl : ClientNode). OfClient volume posts c.trace (λ d. IsClient cl volume d × ClientFits shape b d)) (sym client_same) run.client_is);
+        client_is = client_stays volume posts origin.first c.trace the_step (λ d. IsClient new.client volume d × ClientFits shape b d) name refl
+            (subst (λ (cl : ClientNode). OfClient origin.first volume posts c.trace (λ d. IsClient cl volume d × ClientFits shape b d)) (sym client_same) run.client_is);
       }
 
-    sure_now : SureAll shape (is_harmed all (the_step ∷ reverse c.trace) n) new.nodes.items
-    sure_now =
-        changed_sure shape old.nodes.items new.nodes.items name of How change (is_harmed all (reverse c.trace) n) (is_harmed all (the_step ∷ reverse c.trace) n) kept.sure
-        (λ calm. sure_here (λ stays. kept.sure name of change.was change.there (sym (harmed_still all (reverse c.trace) the_step n name (unloading all the_step name stays)) ∙ calm)))
+    sure_now : origin.sure ≡ true → SureAll shape (is_harmed all (the_step ∷ reverse c.trace) n) new.nodes.items
+    sure_now surely =
+        changed_sure shape old.nodes.items new.nodes.items name of How change (is_harmed all (reverse c.trace) n) (is_harmed all (the_step ∷ reverse c.trace) n) (kept.sure surely)
+        (λ calm. sure_here (λ stays. kept.sure surely name of change.was change.there (sym (harmed_still all (reverse c.trace) the_step n name (unloading all the_step name stays)) ∙ calm)))
         (λ other differs calm. sym (harmed_still all (reverse c.trace) the_step n other (other_loads all the_step name other refl differs)) ∙ calm)
 
-    may : failed ≡ true → MayFail all (reverse c.trace) the_step
-    may fails = elim calm_here [
+    may : origin.sure ≡ true → failed ≡ true → MayFail all (reverse c.trace) the_step
+    may surely fails = elim calm_here [
       | inl stops ↦ inl stops
-      | inr calm ↦ may_fail all (reverse c.trace) the_step n name refl refl (λ harmless. calm (kept.sure name of change.was change.there harmless)) fails
+      | inr calm ↦ may_fail all (reverse c.trace) the_step n name refl refl (λ harmless. calm (kept.sure surely name of change.was change.there harmless)) fails
     ]
 
-    pub node_kept : HasStepped volume all b n (sender.Node name) what old new c
+    pub node_kept : HasStepped origin volume all b n (sender.Node name) what old new c
     node_kept = record {
       step = the_step;
       said = [];
@@ -207,8 +208,8 @@ module _ (volume : Volume) (all : List Event) (b n : ℕ) (old new : World) (c :
         within = subst (λ (l : List Posted). AllByRecursion (λ m. IsPartyOfVolume shape m.from × IsPartyOfVolume shape m.to) l) (sym posts_now)
             (all_both (λ m. IsPartyOfVolume shape m.from × IsPartyOfVolume shape m.to) sent added kept.within (posts_within shape (sender.Node name) outs of));
         marked = subst (λ (l : List TraceStep). AreMarked l c.dropped new.lowest (marks_of new.sent.items)) (sym back) marked_now;
-        calm = calm_next all c.trace the_step kept.calm may;
-        sure = subst (λ (l : List TraceStep). SureAll shape (is_harmed all l n) new.nodes.items) (sym back) sure_now;
+        calm = λ surely. calm_next all c.trace the_step (kept.calm surely) (may surely);
+        sure = λ surely. subst (λ (l : List TraceStep). SureAll shape (is_harmed all l n) new.nodes.items) (sym back) (sure_now surely);
         numbered = subst (λ (l : List TraceStep). AllByRecursion (λ s. s.event ≤ n) l) (sym back) (omega arith, kept.numbered);
         lines = lines_same ∙ (kept.lines ∙ sym (append-nil c.lines));
         geometry = geometry_same ∙ kept.geometry;

@@ -10,13 +10,14 @@ use Rattle.schedule_text.specs.Limits.{IsOfVolume}
 use Rattle.volume_model.specs.Groups.{same_node}
 use Rattle.unanimous_certificate.specs.Kept.{node_place}
 use Rattle.run_rules.specs.Knowing.{KnownNode, fresh}
-use Rattle.run_rules.specs.Running.{formatted}
+use Rattle.salus_types.specs.declared.records.Held.{Held}
 use Rattle.list_lemmas.proofs.Tests.{by_bool}
-use Rattle.mem_node.specs.declared.node.MemNode.{MemNode}
-use Rattle.mem_node.specs.Fitting.{Fits, IsUnharmed}
+use Rattle.disk_model.specs.declared.disk.Disk.{Ghosts}
+use Rattle.disk_node.specs.declared.node.DiskNode.{DiskNode}
+use Rattle.disk_node.specs.Fitting.{Fits, IsUnharmed, held_in}
 use Rattle.run_steps.proofs.Stepping.{one_node, same_name}
 use Rattle.run_steps.proofs.Marking.{get_set_here, get_set_other, length_set}
-use Rattle.salus_world.specs.Places.{name_at, FitAll, SureAll, AreFormatted, ChangesAt}
+use Rattle.salus_world.specs.Places.{name_at, FitAll, SureAll, AllUnharmed, IsFormatted, AreFormatted, ChangesAt}
 
 -- ---- places
 
@@ -37,15 +38,15 @@ other_place shape a b of also differs same =
     not_both : {b : Bool} → b ≡ true → b ≡ false → ⊥
     not_both is also = cc
 
-module _ (shape : Shape) (old new : List MemNode) (name : NodeName) (of : IsOfVolume shape name) (How : MemNode → MemNode → Type 0) (change : ChangesAt (node_place shape name) old new How) where
+module _ {D : Type 0} {g : Ghosts D} {lane : _} (shape : Shape) (old new : List (DiskNode D g lane)) (name : NodeName) (of : IsOfVolume shape name) (How : DiskNode D g lane → DiskNode D g lane → Type 0) (change : ChangesAt (node_place shape name) old new How) where
   -- the node that has changed, and one that hasn't
-  this_node : (node : MemNode) → slice_get new (node_place shape name) ≡ Some node → node ≡ change.is
-  this_node node at = get_set_here old (node_place shape name) change.is node (subst (λ (l : List MemNode). slice_get l (node_place shape name) ≡ Some node) change.set at)
+  this_node : (node : DiskNode D g lane) → slice_get new (node_place shape name) ≡ Some node → node ≡ change.is
+  this_node node at = get_set_here old (node_place shape name) change.is node (subst (λ (l : List (DiskNode D g lane)). slice_get l (node_place shape name) ≡ Some node) change.set at)
 
-  that_node : (other : NodeName) → IsOfVolume shape other → same_node name other ≡ false → (node : MemNode) → slice_get new (node_place shape other) ≡ Some node → slice_get old (node_place shape other) ≡ Some node
+  that_node : (other : NodeName) → IsOfVolume shape other → same_node name other ≡ false → (node : DiskNode D g lane) → slice_get new (node_place shape other) ≡ Some node → slice_get old (node_place shape other) ≡ Some node
   that_node other also differs node at =
       sym (get_set_other old (node_place shape name) (node_place shape other) change.is (other_place shape name other of also differs))
-      ∙ subst (λ (l : List MemNode). slice_get l (node_place shape other) ≡ Some node) change.set at
+      ∙ subst (λ (l : List (DiskNode D g lane)). slice_get l (node_place shape other) ≡ Some node) change.set at
 
   pub count_stays : length new ≡ length old
   count_stays = ap length change.set ∙ length_set old (node_place shape name) change.is
@@ -57,7 +58,7 @@ module _ (shape : Shape) (old new : List MemNode) (name : NodeName) (of : IsOfVo
       (λ e.
       let is : name ≡ other = one_node name other e in
       subst (λ (n : NodeName). Fits shape n (later n) node) is
-      (subst (λ (m : MemNode). Fits shape name (later name) m) (sym (this_node node (subst (λ (n : NodeName). slice_get new (node_place shape n) ≡ Some node) (sym is) at))) here))
+      (subst (λ (m : DiskNode D g lane). Fits shape name (later name) m) (sym (this_node node (subst (λ (n : NodeName). slice_get new (node_place shape n) ≡ Some node) (sym is) at))) here))
       (λ e. subst (λ (k : KnownNode). Fits shape other k node) (sym (others other e)) (fits other also node (that_node other also e node at)))
 
   pub changed_sure : (harmed later : NodeName → Bool) → SureAll shape harmed old → (later name ≡ false → IsUnharmed change.is)
@@ -66,47 +67,50 @@ module _ (shape : Shape) (old new : List MemNode) (name : NodeName) (of : IsOfVo
       by_bool (same_node name other) (IsUnharmed node)
       (λ e.
       let is : name ≡ other = one_node name other e in
-      subst (λ (m : MemNode). IsUnharmed m) (sym (this_node node (subst (λ (n : NodeName). slice_get new (node_place shape n) ≡ Some node) (sym is) at)))
+      subst (λ (m : DiskNode D g lane). IsUnharmed m) (sym (this_node node (subst (λ (n : NodeName). slice_get new (node_place shape n) ≡ Some node) (sym is) at)))
       (here (subst (λ (n : NodeName). later n ≡ false) (sym is) calm)))
       (λ e. sure other also node (that_node other also e node at) (others other e calm))
 
 -- ---- formatted nodes
 
-module _ (shape : Shape) (key : List ℕ) (made : List MemNode) (are : AreFormatted shape key (nodes shape) made) where
-  abbrev first : NodeName → KnownNode
-  first name = fresh shape name.region (formatted (record { geometry = shape; key = key }) name)
+module _ {D : Type 0} {g : Ghosts D} {lane : _} (shape : Shape) (key : List ℕ) (made : List (DiskNode D g lane)) (are : AreFormatted shape key (nodes shape) made) where
+  pub at_name : (name : NodeName) → IsOfVolume shape name → (node : DiskNode D g lane) → slice_get made (node_place shape name) ≡ Some node → IsFormatted shape key name node
+  at_name name of node at = subst (λ (n : NodeName). IsFormatted shape key n node) (name_of_place shape name of) (are.each (node_place shape name) node at)
 
-  at_name : (name : NodeName) → IsOfVolume shape name → (node : MemNode) → slice_get made (node_place shape name) ≡ Some node → Fits shape name (first name) node × IsUnharmed node
-  at_name name of node at = subst (λ (n : NodeName). Fits shape n (first n) node × IsUnharmed node) (name_of_place shape name of) (are.each (node_place shape name) node at)
-
-  pub formatted_fit : FitAll shape first made
-  formatted_fit = λ name of node at. (at_name name of node at).0
-
-  pub formatted_sure : (harmed : NodeName → Bool) → SureAll shape harmed made
-  formatted_sure harmed = λ name of node at calm. (at_name name of node at).1
+  -- by what each holds
+  pub formatted_fit : (held : NodeName → Held) → ((name : NodeName) → IsOfVolume shape name → (node : DiskNode D g lane) → slice_get made (node_place shape name) ≡ Some node → held_in node ≡ held name)
+      → FitAll shape (λ name. fresh shape name.region (held name)) made
+  formatted_fit held holds = λ name of node at. subst (λ (h : Held). Fits shape name (fresh shape name.region h) node) (holds name of node at) (at_name name of node at).fits
 
 pub region_at : (shape : Shape) (place : ℕ) → 1 ≤ shape.replicas → place < nodes shape → (name_at shape place).region < regions shape
 region_at shape place some inside = div_below place shape.replicas (regions shape) some inside
 
+pub got_last : {A : Type 0} (xs : List A) (y : A) (i : ℕ) (x : A) → slice_get (xs ++ y ∷ []) i ≡ Some x → (slice_get xs i ≡ Some x) ⊎ ((i ≡ length xs) × (x ≡ y))
+got_last [] y zero x at = inr (refl, sym (same_Some y x at))
+got_last [] y (suc i) x at = absurd (none-some x at)
+got_last (z ∷ xs) y zero x at = inl at
+got_last (z ∷ xs) y (suc i) x at = elim (got_last xs y i x at) [ inl is ↦ inl is | inr is ↦ inr (ap suc is.0, is.1) ]
+
 -- one more node is formatted
-pub formatted_more : (shape : Shape) (key : List ℕ) (place : ℕ) (made : List MemNode) (node : MemNode) (name : NodeName) → AreFormatted shape key place made → name ≡ name_at shape place
-    → Fits shape name (fresh shape name.region (formatted (record { geometry = shape; key = key }) name)) node → IsUnharmed node → AreFormatted shape key (place + 1) (made ++ node ∷ [])
-formatted_more shape key place made node name are is fits sure =
-    let P : ℕ → MemNode → Type 0 = λ p m. Fits shape (name_at shape p) (fresh shape (name_at shape p).region (formatted (record { geometry = shape; key = key }) (name_at shape p))) m × IsUnharmed m in
-    let here : P place node = subst (λ (n : NodeName). Fits shape n (fresh shape n.region (formatted (record { geometry = shape; key = key }) n)) node × IsUnharmed node) is (fits, sure) in
+pub formatted_more : {D : Type 0} {g : Ghosts D} {lane : _} (shape : Shape) (key : List ℕ) (place : ℕ) (made : List (DiskNode D g lane)) (node : DiskNode D g lane) (name : NodeName) → AreFormatted shape key place made → name ≡ name_at shape place
+    → IsFormatted shape key name node → AreFormatted shape key (place + 1) (made ++ node ∷ [])
+formatted_more {D = D} {g = g} {lane = lane} shape key place made node name are is one =
+    let P : ℕ → DiskNode D g lane → Type 0 = λ p m. IsFormatted shape key (name_at shape p) m in
+    let here : P place node = subst (λ (n : NodeName). IsFormatted shape key n node) is one in
     record {
       long = length_push made node ∙ ap (λ (k : ℕ). k + 1) are.long;
       each = λ p m at. elim (got_last made node p m at) [
         | inl old ↦ are.each p m old
-        | inr new ↦ subst (λ (x : MemNode). P p x) (sym new.1) (subst (λ (k : ℕ). P k node) (sym (new.0 ∙ are.long)) here)
+        | inr new ↦ subst (λ (x : DiskNode D g lane). P p x) (sym new.1) (subst (λ (k : ℕ). P k node) (sym (new.0 ∙ are.long)) here)
       ];
     }
-  where
-    got_last : (xs : List MemNode) (y : MemNode) (i : ℕ) (x : MemNode) → slice_get (xs ++ y ∷ []) i ≡ Some x → (slice_get xs i ≡ Some x) ⊎ ((i ≡ length xs) × (x ≡ y))
-    got_last [] y zero x at = inr (refl, sym (same_Some y x at))
-    got_last [] y (suc i) x at = absurd (none-some x at)
-    got_last (z ∷ xs) y zero x at = inl at
-    got_last (z ∷ xs) y (suc i) x at = elim (got_last xs y i x at) [ inl is ↦ inl is | inr is ↦ inr (ap suc is.0, is.1) ]
 
-pub none_formatted : (shape : Shape) (key : List ℕ) → AreFormatted shape key 0 []
+pub none_formatted : {D : Type 0} {g : Ghosts D} {lane : _} (shape : Shape) (key : List ℕ) → AreFormatted {D = D} {g = g} {lane = lane} shape key 0 []
 none_formatted shape key = record { long = refl; each = λ p m at. absurd (none-some m at) }
+
+-- one more of which no call is to fail
+pub unharmed_more : {D : Type 0} {g : Ghosts D} {lane : _} (made : List (DiskNode D g lane)) (node : DiskNode D g lane) → AllUnharmed made → IsUnharmed node → AllUnharmed (made ++ node ∷ [])
+unharmed_more {D = D} {g = g} {lane = lane} made node all one = λ place x at. elim (got_last made node place x at) [
+  | inl old ↦ all place x old
+  | inr new ↦ subst (λ (n : DiskNode D g lane). IsUnharmed n) (sym new.1) one
+]

@@ -1,12 +1,15 @@
 //! The events of a schedule.
-ghost use Rattle.std.specs.Prelude.{◌≡◌, ◌+◌, ◌<◌, ◌^◌, ◌++◌, ◌∷◌, [], ℕ, false, None, length, IfOk, IfSome, OnOk};
+ghost use Rattle.std.specs.Prelude.{◌≡◌, ◌+◌, ◌<◌, ◌^◌, ◌++◌, ◌∷◌, [], ℕ, false, None, Some, slice_get, length, IfOk, IfSome, OnOk};
 ghost use Rattle.schedule_text.specs.declared.schedule.Event.TheVariants as event;
 ghost use Rattle.schedule_text.specs.Limits.{IsPartyOfVolume, IsEventWithin};
 ghost use Rattle.salus_model.specs.Following.{Posted, posts_of, is_sent};
+ghost use Rattle.replica_rules.specs.Rules.{Receives, Ticks};
+ghost use Rattle.run_rules.specs.Knowing.{input_of_post};
 ghost use Rattle.client_node.specs.Standing.{newest_of};
 
 use crate::mail::{mark_dropped, message_at, pass_marked};
 use crate::world::World;
+use disk_model::{Disk, MemDisk};
 use printed_lines::Line;
 use salus_model::{Request, Sent};
 use salus_types::{NoMemory, Sender};
@@ -24,8 +27,8 @@ fn index_of(sent: &Vec<Sent>, message: u64) -> Option<usize>
     }
 }
 
-impl World {
-    ghost use Rattle.salus_world.specs.Kept.{IsOngoing, StepsAt, DeliversNext, Does};
+impl<D: Disk> World<D> {
+    ghost use Rattle.salus_world.specs.Kept.{IsOngoing, StepsAt, DeliversNext, Does, PassesAt, PassesBy};
 
     /// The event is skipped.
     fn skip(&mut self, event: u64, message: u64) -> Result<(), NoMemory>
@@ -41,7 +44,8 @@ impl World {
     fn deliver_at(&mut self, index: usize) -> Result<(), NoMemory>
         requires kept { IsOngoing self.old }
         requires inside { index < length self.old.sent.items }
-        ensures { OnOk result (StepsAt index self.old self.new) }
+        ensures steps { OnOk result (StepsAt index self.old self.new) }
+        ensures moments { OnOk result ((m : Posted) → slice_get (posts_of self.old.sent.items) index ≡ Some m → PassesAt m.to (input_of_post m) self.old self.new) }
     {
         let to = message_at(&self.sent, index).to;
         match to {
@@ -59,7 +63,8 @@ impl World {
     /// Hands over message number `message`; the event is skipped where it isn't sent.
     pub fn deliver(&mut self, number: u64, message: u64) -> Result<(), NoMemory>
         requires kept { IsOngoing self.old }
-        ensures { OnOk result (Does number (event.Deliver message) self.old self.new) }
+        ensures does { OnOk result (Does number (event.Deliver message) self.old self.new) }
+        ensures moments { OnOk result (PassesBy message self.old self.new) }
     {
         match index_of(&self.sent, message) {
             Some(index) => {
@@ -90,6 +95,79 @@ impl World {
         }
     }
 
+    /// Hands bytes to a party as a message of that sender.
+    pub fn lie(&mut self, from: Sender, to: Sender, bytes: &[u8]) -> Result<(), NoMemory>
+        requires kept { IsOngoing self.old }
+        requires from { IsPartyOfVolume self.old.geometry from }
+        requires to { IsPartyOfVolume self.old.geometry to }
+        ensures does { OnOk result ((number : ℕ) → Does number (event.Lie from to bytes.now) self.old self.new) }
+        ensures moments { OnOk result (PassesAt to (Receives from bytes.now) self.old self.new) }
+    {
+        match to {
+            Sender::Client => {
+                self.lie_to_client(from, bytes)?;
+                Ok(())
+            }
+            Sender::Node(name) => {
+                self.lie_to_node(name, from, bytes)?;
+                Ok(())
+            }
+        }
+    }
+
+    /// Lets a party send again what it waits for.
+    pub fn tick(&mut self, party: Sender) -> Result<(), NoMemory>
+        requires kept { IsOngoing self.old }
+        requires of { IsPartyOfVolume self.old.geometry party }
+        ensures does { OnOk result ((number : ℕ) → Does number (event.Tick party) self.old self.new) }
+        ensures moments { OnOk result (PassesAt party Ticks self.old self.new) }
+    {
+        match party {
+            Sender::Client => {
+                self.tick_client()?;
+                Ok(())
+            }
+            Sender::Node(name) => {
+                self.tick_node(name)?;
+                Ok(())
+            }
+        }
+    }
+
+    /// Hands over the lowest message that is neither delivered nor dropped, and gives its number; nothing where there is none.
+    pub fn deliver_next(&mut self) -> Result<Option<u64>, NoMemory>
+        requires kept { IsOngoing self.old }
+        ensures delivers { IfOk result (λ next. DeliversNext next self.old self.new) }
+        ensures moments { IfOk result (λ next. IfSome next (λ k. PassesBy k self.old self.new)) }
+    {
+        let index = pass_marked(&self.sent, self.lowest);
+        self.lowest = index;
+        if index >= self.sent.len() {
+            return Ok(None);
+        }
+        self.deliver_at(index)?;
+        Ok(Some(index as u64 + 1))
+    }
+
+    /// At most so many times hands over the lowest message that is neither delivered nor dropped.
+    pub fn settle(&mut self, count: u64) -> Result<(), NoMemory>
+        requires kept { IsOngoing self.old }
+        ensures { OnOk result ((number : ℕ) → Does number (event.Settle count) self.old self.new) }
+    {
+        'deliveries: for done in 0..count {
+            prove!(done < count);
+            match self.deliver_next()? {
+                Some(_) => {}
+                None => return Ok(()),
+            }
+        }
+        Ok(())
+    }
+}
+
+impl World<MemDisk> {
+    ghost use Rattle.salus_world.specs.Kept.{IsOngoing, Does, IsExact};
+
     /// Hands over message number `message` while its receiver's disk stops; the event is skipped where it isn't sent, or goes to
     /// the client.
     pub fn stop(
@@ -101,7 +179,8 @@ impl World {
         fill: u8,
     ) -> Result<(), NoMemory>
         requires kept { IsOngoing self.old }
-        ensures { OnOk result (Does number (event.Stop message calls keep fill) self.old self.new) }
+        ensures does { OnOk result (Does number (event.Stop message calls keep fill) self.old self.new) }
+        ensures exact { OnOk result (IsExact (event.Stop message calls keep fill) self.old self.new) }
     {
         match index_of(&self.sent, message) {
             Some(index) => {
@@ -128,7 +207,8 @@ impl World {
         requires kept { IsOngoing self.old }
         requires is { message ≡ index + 1 }
         requires inside { index < length self.old.sent.items }
-        ensures { OnOk result (Does number (event.Stop message calls keep fill) self.old self.new) }
+        ensures does { OnOk result (Does number (event.Stop message calls keep fill) self.old self.new) }
+        ensures exact { OnOk result (IsExact (event.Stop message calls keep fill) self.old self.new) }
     {
         let to = message_at(&self.sent, index).to;
         match to {
@@ -143,79 +223,14 @@ impl World {
         }
     }
 
-    /// Hands bytes to a party as a message of that sender.
-    pub fn lie(&mut self, from: Sender, to: Sender, bytes: &[u8]) -> Result<(), NoMemory>
-        requires kept { IsOngoing self.old }
-        requires from { IsPartyOfVolume self.old.geometry from }
-        requires to { IsPartyOfVolume self.old.geometry to }
-        ensures { OnOk result ((number : ℕ) → Does number (event.Lie from to bytes.now) self.old self.new) }
-    {
-        match to {
-            Sender::Client => {
-                self.lie_to_client(from, bytes)?;
-                Ok(())
-            }
-            Sender::Node(name) => {
-                self.lie_to_node(name, from, bytes)?;
-                Ok(())
-            }
-        }
-    }
-
-    /// Lets a party send again what it waits for.
-    pub fn tick(&mut self, party: Sender) -> Result<(), NoMemory>
-        requires kept { IsOngoing self.old }
-        requires of { IsPartyOfVolume self.old.geometry party }
-        ensures { OnOk result ((number : ℕ) → Does number (event.Tick party) self.old self.new) }
-    {
-        match party {
-            Sender::Client => {
-                self.tick_client()?;
-                Ok(())
-            }
-            Sender::Node(name) => {
-                self.tick_node(name)?;
-                Ok(())
-            }
-        }
-    }
-
-    /// Hands over the lowest message that is neither delivered nor dropped, and gives its number; nothing where there is none.
-    pub fn deliver_next(&mut self) -> Result<Option<u64>, NoMemory>
-        requires kept { IsOngoing self.old }
-        ensures { IfOk result (λ next. DeliversNext next self.old self.new) }
-    {
-        let index = pass_marked(&self.sent, self.lowest);
-        self.lowest = index;
-        if index >= self.sent.len() {
-            return Ok(None);
-        }
-        self.deliver_at(index)?;
-        Ok(Some(index as u64 + 1))
-    }
-
-    /// At most so many times hands over the lowest message that is neither delivered nor dropped.
-    pub fn settle(&mut self, count: u64) -> Result<(), NoMemory>
-        requires kept { IsOngoing self.old }
-        ensures { OnOk result ((number : ℕ) → Does number (event.Settle count) self.old self.new) }
-    {
-        'deliveries: for done in 0..count {
-            prove!(done < count);
-            match self.deliver_next()? {
-                Some(_) => {}
-                None => return Ok(()),
-            }
-        }
-        Ok(())
-    }
-
     /// The event of that number, which is above those of all requests before.
     pub fn step(&mut self, number: u64, event: Event) -> Result<(), NoMemory>
         requires kept { IsOngoing self.old }
         requires newest { newest_of self.old.client < number }
         requires low { number < 2 ^ 32 }
         requires within { IsEventWithin self.old.geometry event }
-        ensures { OnOk result (Does number event self.old self.new) }
+        ensures does { OnOk result (Does number event self.old self.new) }
+        ensures exact { OnOk result (IsExact event self.old self.new) }
     {
         match event {
             Event::Write { batch } => {

@@ -5,14 +5,18 @@ ghost use Rattle.schedule_text.specs.declared.schedule.Event.TheVariants as even
 ghost use Rattle.schedule_text.specs.Limits.{IsOfVolume};
 ghost use Rattle.salus_model.specs.declared.trace.Handed.TheVariants as handed;
 ghost use Rattle.salus_model.specs.Following.{Posted, posts_of};
+ghost use Rattle.replica_rules.specs.Rules.{Receives, Ticks};
+ghost use Rattle.run_rules.specs.Knowing.{input_of_post};
+ghost use Rattle.disk_node.specs.Fitting.{PassesOn};
 
 use crate::mail::{mark_delivered, message_at, post};
 use crate::places::{crash_at, fail_at, hand_at, place_of, replace_at, stop_at, tick_at};
 use crate::world::World;
+use disk_model::{Disk, MemDisk};
 use salus_types::{NoMemory, NodeName, Outs, Sender};
 
-impl World {
-    ghost use Rattle.salus_world.specs.Kept.{IsOngoing, Steps, Does, AtNode, StopsOn};
+impl<D: Disk> World<D> {
+    ghost use Rattle.salus_world.specs.Kept.{IsOngoing, Steps, AtNode};
 
     /// Hands bytes to a node as a message of that sender.
     pub fn lie_to_node(
@@ -23,7 +27,8 @@ impl World {
     ) -> Result<(), NoMemory>
         requires kept { IsOngoing self.old }
         requires of { IsOfVolume self.old.geometry name }
-        ensures { OnOk result (Steps (IsNode name) (handed.Lie from bytes.now) self.old self.new) }
+        ensures steps { OnOk result (Steps (IsNode name) (handed.Lie from bytes.now) self.old self.new) }
+        ensures moments { OnOk result (AtNode name (PassesOn (Receives from bytes.now)) self.old self.new) }
     {
         let place = place_of(&self.geometry, name);
         let outcome = hand_at(&mut self.nodes, place, from, bytes)?;
@@ -41,7 +46,8 @@ impl World {
         requires kept { IsOngoing self.old }
         requires inside { index < length self.old.sent.items }
         requires of { IsOfVolume self.old.geometry name }
-        ensures { OnOk result (Steps (IsNode name) (handed.Deliver (index + 1)) self.old self.new) }
+        ensures steps { OnOk result (Steps (IsNode name) (handed.Deliver (index + 1)) self.old self.new) }
+        ensures moments { OnOk result ((m : Posted) → slice_get (posts_of self.old.sent.items) index ≡ Some m → AtNode name (PassesOn (input_of_post m)) self.old self.new) }
     {
         let place = place_of(&self.geometry, name);
         let message = message_at(&self.sent, index);
@@ -65,7 +71,8 @@ impl World {
     pub fn tick_node(&mut self, name: NodeName) -> Result<(), NoMemory>
         requires kept { IsOngoing self.old }
         requires of { IsOfVolume self.old.geometry name }
-        ensures { OnOk result (Steps (IsNode name) handed.Tick self.old self.new) }
+        ensures steps { OnOk result (Steps (IsNode name) handed.Tick self.old self.new) }
+        ensures moments { OnOk result (AtNode name (PassesOn Ticks) self.old self.new) }
     {
         let place = place_of(&self.geometry, name);
         let outcome = tick_at(&mut self.nodes, place)?;
@@ -77,6 +84,10 @@ impl World {
         )?;
         Ok(())
     }
+}
+
+impl World<MemDisk> {
+    ghost use Rattle.salus_world.specs.Kept.{IsOngoing, Steps, Does, AtNode, StopsOn, IsExact};
 
     /// Hands the message of that index to a node whose disk stops after so many calls; then the node crashes.
     pub fn stop_node(
@@ -118,7 +129,8 @@ impl World {
     pub fn crash(&mut self, name: NodeName, keep: u64, fill: u8) -> Result<(), NoMemory>
         requires kept { IsOngoing self.old }
         requires of { IsOfVolume self.old.geometry name }
-        ensures { OnOk result ((number : ℕ) → Does number (event.Crash name keep fill) self.old self.new) }
+        ensures does { OnOk result ((number : ℕ) → Does number (event.Crash name keep fill) self.old self.new) }
+        ensures exact { OnOk result (IsExact (event.Crash name keep fill) self.old self.new) }
     {
         let place = place_of(&self.geometry, name);
         crash_at(&mut self.nodes, place, keep, fill)?;
@@ -141,7 +153,8 @@ impl World {
         requires kept { IsOngoing self.old }
         requires of { IsOfVolume self.old.geometry name }
         requires call { 1 ≤ call }
-        ensures { OnOk result ((number : ℕ) → Does number (event.Fail name call) self.old self.new) }
+        ensures does { OnOk result ((number : ℕ) → Does number (event.Fail name call) self.old self.new) }
+        ensures exact { OnOk result (IsExact (event.Fail name call) self.old self.new) }
     {
         let place = place_of(&self.geometry, name);
         fail_at(&mut self.nodes, place, call)?;

@@ -5,7 +5,8 @@ ghost use Rattle.unanimous_certificate.specs.Kept.{node_place};
 ghost use Rattle.replica_rules.specs.Rules.{Receives, Ticks};
 ghost use Rattle.salus_world.specs.Places.{name_at, ChangesAt, HasAnswered, HasStopped, HasCrashed, IsRenewed, IsNamed};
 
-use mem_node::{MemNode, Outcome};
+use disk_model::{Disk, MemDisk};
+use disk_node::{DiskNode, Outcome};
 use salus_types::{Geometry, NoMemory, NodeName, Sender};
 
 /// A node's place among all nodes of the volume, region by region.
@@ -39,8 +40,8 @@ pub fn name_at(geometry: &Geometry, place: usize) -> NodeName
 }
 
 /// Hands bytes to the node at that place as a message of that sender.
-pub fn hand_at(
-    nodes: &mut Vec<MemNode>,
+pub fn hand_at<D: Disk>(
+    nodes: &mut Vec<DiskNode<D>>,
     place: usize,
     from: Sender,
     bytes: &[u8],
@@ -53,7 +54,7 @@ pub fn hand_at(
 }
 
 /// Hands a tick to it.
-pub fn tick_at(nodes: &mut Vec<MemNode>, place: usize) -> Result<Outcome, NoMemory>
+pub fn tick_at<D: Disk>(nodes: &mut Vec<DiskNode<D>>, place: usize) -> Result<Outcome, NoMemory>
     requires { place < length nodes.old.items }
     ensures { IfOk result (λ outcome. ChangesAt place nodes.old.items nodes.new.items (HasAnswered Ticks outcome)) }
 {
@@ -63,7 +64,7 @@ pub fn tick_at(nodes: &mut Vec<MemNode>, place: usize) -> Result<Outcome, NoMemo
 
 /// Hands bytes to it while its disk stops after so many calls; then it crashes, and is loaded.
 pub fn stop_at(
-    nodes: &mut Vec<MemNode>,
+    nodes: &mut Vec<DiskNode<MemDisk>>,
     place: usize,
     from: Sender,
     bytes: &[u8],
@@ -79,7 +80,12 @@ pub fn stop_at(
 }
 
 /// Lets it crash, and loads it.
-pub fn crash_at(nodes: &mut Vec<MemNode>, place: usize, keep: u64, fill: u8) -> Result<(), NoMemory>
+pub fn crash_at(
+    nodes: &mut Vec<DiskNode<MemDisk>>,
+    place: usize,
+    keep: u64,
+    fill: u8,
+) -> Result<(), NoMemory>
     requires { place < length nodes.old.items }
     ensures { OnOk result (ChangesAt place nodes.old.items nodes.new.items (HasCrashed keep fill)) }
 {
@@ -88,7 +94,7 @@ pub fn crash_at(nodes: &mut Vec<MemNode>, place: usize, keep: u64, fill: u8) -> 
 }
 
 /// Starts it anew.
-pub fn replace_at(nodes: &mut Vec<MemNode>, place: usize) -> Result<(), NoMemory>
+pub fn replace_at(nodes: &mut Vec<DiskNode<MemDisk>>, place: usize) -> Result<(), NoMemory>
     requires { place < length nodes.old.items }
     ensures { OnOk result (ChangesAt place nodes.old.items nodes.new.items IsRenewed) }
 {
@@ -97,7 +103,7 @@ pub fn replace_at(nodes: &mut Vec<MemNode>, place: usize) -> Result<(), NoMemory
 }
 
 /// Lets the given call of its disk fail, counted from now and from 1.
-pub fn fail_at(nodes: &mut Vec<MemNode>, place: usize, call: u64) -> Result<(), NoMemory>
+pub fn fail_at(nodes: &mut Vec<DiskNode<MemDisk>>, place: usize, call: u64) -> Result<(), NoMemory>
     requires inside { place < length nodes.old.items }
     requires call { 1 ≤ call }
     ensures { OnOk result (ChangesAt place nodes.old.items nodes.new.items (IsNamed call)) }

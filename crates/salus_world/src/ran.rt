@@ -1,5 +1,6 @@
 use client_node::ClientNode;
-use mem_node::MemNode;
+use disk_model::MemDisk;
+use disk_node::DiskNode;
 use printed_lines::Lines;
 use salus_model::Messages;
 
@@ -11,7 +12,7 @@ pub struct Ran {
     /// All messages, in the order sent.
     pub messages: Messages,
     /// The nodes at its end, in order of region and replica.
-    pub nodes: Vec<MemNode>,
+    pub nodes: Vec<DiskNode<MemDisk>>,
     /// The client at its end.
     pub client: ClientNode,
 }

@@ -10,10 +10,11 @@ ghost use Rattle.salus_world.specs.Growing.{new_messages};
 use crate::mail::{mark_delivered, message_at, post};
 use crate::world::World;
 use client_asking::Step;
+use disk_model::Disk;
 use salus_model::Request;
 use salus_types::{NoMemory, Sender};
 
-impl World {
+impl<D: Disk> World<D> {
     ghost use Rattle.salus_world.specs.Kept.{IsOngoing, Steps, Does, event_of};
 
     /// Posts the client's messages, and adds its lines.
@@ -36,7 +37,8 @@ impl World {
         requires newest { newest_of self.old.client < event }
         requires low { event < 2 ^ 32 }
         requires within { IsEventWithin self.old.geometry (event_of request) }
-        ensures { OnOk result (Does event (event_of request) self.old self.new) }
+        ensures does { OnOk result (Does event (event_of request) self.old self.new) }
+        ensures nodes { self.new.nodes ≡ self.old.nodes }
     {
         let step = self.client.request(event, request)?;
         self.tell(step)?;
@@ -47,7 +49,8 @@ impl World {
     pub fn lie_to_client(&mut self, from: Sender, bytes: &[u8]) -> Result<(), NoMemory>
         requires kept { IsOngoing self.old }
         requires from { IsPartyOfVolume self.old.geometry from }
-        ensures { OnOk result (Steps IsClient (handed.Lie from bytes.now) self.old self.new) }
+        ensures steps { OnOk result (Steps IsClient (handed.Lie from bytes.now) self.old self.new) }
+        ensures nodes { self.new.nodes ≡ self.old.nodes }
     {
         let step = self.client.receive(from, bytes)?;
         self.tell(step)?;
@@ -58,7 +61,8 @@ impl World {
     pub fn deliver_to_client(&mut self, index: usize) -> Result<(), NoMemory>
         requires kept { IsOngoing self.old }
         requires inside { index < length self.old.sent.items }
-        ensures { OnOk result (Steps IsClient (handed.Deliver (index + 1)) self.old self.new) }
+        ensures steps { OnOk result (Steps IsClient (handed.Deliver (index + 1)) self.old self.new) }
+        ensures nodes { self.new.nodes ≡ self.old.nodes }
     {
         let message = message_at(&self.sent, index);
         let step = self.client.receive(message.from, message.bytes.as_slice())?;
@@ -70,7 +74,8 @@ impl World {
     /// Lets it send again what it waits for.
     pub fn tick_client(&mut self) -> Result<(), NoMemory>
         requires kept { IsOngoing self.old }
-        ensures { OnOk result (Steps IsClient handed.Tick self.old self.new) }
+        ensures steps { OnOk result (Steps IsClient handed.Tick self.old self.new) }
+        ensures nodes { self.new.nodes ≡ self.old.nodes }
     {
         let outs = self.client.tick()?;
         post(
@@ -85,7 +90,8 @@ impl World {
     /// Lets it crash.
     pub fn crash_client(&mut self)
         requires kept { IsOngoing self.old }
-        ensures { (number : ℕ) → Does number event.ClientCrash self.old self.new }
+        ensures does { (number : ℕ) → Does number event.ClientCrash self.old self.new }
+        ensures nodes { self.new.nodes ≡ self.old.nodes }
     {
         self.client.crash();
     }

@@ -17,10 +17,12 @@ use Rattle.merkle_region.specs.Tree.{root_of, IsAmong}
 use Rattle.client_tag.specs.Ranges.{IsRecord}
 use Rattle.client_tag.specs.Tags.{is_genuine}
 use Rattle.holding_model.specs.Fitting.{ascends_from, writes_fit, run_fits, record_fits, blocks_written, blocks_zeroed, blocks_after, has_shape}
-use Rattle.volume_model.specs.Contents.{all_regions}
+use Rattle.volume_model.specs.Contents.{all_regions, roots_of}
 use Rattle.volume_model.specs.Recovering.{header_fits, record_counts, base_counts, Pool, End, is_of, base_end, is_link, linked, chain_ends, ends_of, blocks_up_to, picks, choices_of}
 use Rattle.salus_model.specs.Opening.{headers_in}
 use Rattle.restart_pool.specs.Kept.{Kept}
+use Rattle.restart_pool.specs.Assembled.{joined}
+use Rattle.restart_pool.specs.declared.assemble.Contents.{Contents}
 use Rattle.restart_pool.proofs.Single.{length-blocks_written}
 use Rattle.volume_restart.specs.declared.choice.Choice.{Choice}
 use Rattle.volume_restart.specs.Choosing.{IsChoice}
@@ -29,6 +31,7 @@ use Rattle.list_lemmas.proofs.Each.{all_both, all_filter, all_map, all_each, all
 use Rattle.list_lemmas.proofs.Members.{among_all}
 use Rattle.list_lemmas.proofs.Tests.{and_left, and_right}
 use Rattle.session_opening.specs.Gathered.{IsShaped, BaseShaped, PartFits, HeaderLow, IsCounted}
+use Rattle.session_opening.proofs.Rooted.{roots_joined}
 
 each_set : {A : Type 0} (P : A → Type 0) (xs : List A) (i : ℕ) (y : A) → AllByRecursion P xs → P y → AllByRecursion P (slice_set xs i y)
 each_set P [] i y all one = tt
@@ -167,12 +170,19 @@ module _ (kept : Kept) (f : IsCounted kept.shape kept.held) (choice : Choice) (i
   each : EachShaped kept.shape (regions kept.shape) pick
   each = pick_shaped kept.shape kept.held f is.header pick is.contents.among
 
+  blocks_is : choice.contents ≡ joined pick
+  blocks_is = ap (λ (c : Contents). c.blocks) is.contents.is
+
+  pub choice_rooted : choice.roots ≡ roots_of kept.shape choice.contents
+  choice_rooted =
+      ap (λ (c : Contents). c.roots) is.contents.is ∙ (sym (roots_joined kept.shape pick each.0 each.1) ∙ ap (roots_of kept.shape) (sym blocks_is))
+
   pub choice_long : length choice.contents ≡ blocks kept.shape
-  choice_long = ap length is.contents.is ∙ joined_long kept.shape pick each.1 ∙ ap (λ n. n * region_blocks kept.shape) each.0
+  choice_long = ap length blocks_is ∙ joined_long kept.shape pick each.1 ∙ ap (λ n. n * region_blocks kept.shape) each.0
 
   pub choice_sized : AllByRecursion (λ x. length x ≡ kept.shape.block) choice.contents
   choice_sized =
-      subst (AllByRecursion (λ x. length x ≡ kept.shape.block)) (sym is.contents.is)
+      subst (AllByRecursion (λ x. length x ≡ kept.shape.block)) (sym blocks_is)
       (flat_of_all (λ x. length x ≡ kept.shape.block) (λ b. b) pick (all_then (IsShaped kept.shape) (λ b. AllByRecursion (λ x. length x ≡ kept.shape.block) b) (λ b shaped. shaped.1) pick each.1))
 
   pub choice_low : choice.number ≤ 2 ^ 63

@@ -1,5 +1,6 @@
 pub mod Nodes
 pub mod Tabled
+pub mod Rooted
 pub mod Counting
 pub mod Based
 pub mod Beginnings

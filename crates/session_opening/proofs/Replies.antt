@@ -29,7 +29,7 @@ use Rattle.session_opening.specs.declared.gathering.Gathering.{Gathering}
 use Rattle.session_opening.specs.declared.gathering.Turn.TheVariants as turn
 use Rattle.session_opening.specs.Gathered.{starts_gathering, GathersAs, IsCounted, IsGathering, IsTurn, IsWhole, Waits}
 use Rattle.session_opening.proofs.Tabled.{all_said_is, new_name, nobody_said, said_more}
-use Rattle.session_opening.proofs.Counting.{choice_long, choice_low, choice_sized, held_counted}
+use Rattle.session_opening.proofs.Counting.{choice_long, choice_low, choice_rooted, choice_sized, held_counted}
 
 -- ---- what is kept after it
 
@@ -197,7 +197,7 @@ module _ (kept : Gathering) (key : List ℕ) (name : NodeName) (m : Gathered) (n
       let chosen_is : IsChoice (kept_by now) choice = subst (λ o. IfSome o (IsChoice (kept_by now))) some sound in
       let counted : IsCounted (shape_of now) now.pool = subst (λ sh. IsCounted sh now.pool) (sym gathering.shape_is) gathering.counted in
       subst (λ sh. IsWhole sh (turn.Chose choice)) gathering.shape_is
-      (choice_long (kept_by now) counted choice chosen_is, choice_sized (kept_by now) counted choice chosen_is, choice_low (kept_by now) counted choice chosen_is)
+      (choice_long (kept_by now) counted choice chosen_is, choice_sized (kept_by now) counted choice chosen_is, choice_low (kept_by now) counted choice chosen_is, choice_rooted (kept_by now) counted choice chosen_is)
 
 -- ---- the first moment
 

@@ -8,7 +8,7 @@ use Rattle.salus_types.specs.declared.records.Base.{Base}
 use Rattle.schedule_text.specs.declared.schedule.Volume.{Volume}
 use Rattle.printed_lines.specs.declared.line.Line.TheVariants as line
 use Rattle.holding_model.specs.Fitting.{record_fits}
-use Rattle.volume_model.specs.Contents.{blocks_in}
+use Rattle.volume_model.specs.Contents.{blocks_in, roots_of}
 use Rattle.volume_model.specs.Recovering.{Pool}
 use Rattle.volume_restart.specs.declared.restart.Phase.TheVariants as phase
 use Rattle.volume_restart.specs.Restarting.{shape_of}
@@ -61,9 +61,9 @@ starts_gathering e = record { session = e; answered = []; pool = no_pool }
 
 -- ---- what comes of a reply
 
--- what was chosen are all blocks of the volume, each of its length, after at most 2^63 batches
+-- what was chosen are all blocks of the volume, each of its length, after at most 2^63 batches, with the roots of its regions
 abbrev pub IsWhole : Shape → Turn → Type 0
-IsWhole shape (turn.Chose choice) = (length choice.contents ≡ blocks shape) × AllByRecursion (λ x. length x ≡ shape.block) choice.contents × (choice.number ≤ 2 ^ 63)
+IsWhole shape (turn.Chose choice) = (length choice.contents ≡ blocks shape) × AllByRecursion (λ x. length x ≡ shape.block) choice.contents × (choice.number ≤ 2 ^ 63) × (choice.roots ≡ roots_of shape choice.contents)
 IsWhole shape other = Unit {0}
 
 -- others are waited for

@@ -41,6 +41,14 @@ fn put_blocks(out: &mut Vec<u8>, blocks: &[Bytes]) -> Result<(), NoMemory>
     put_each_block(out, blocks)
 }
 
+/// Room for the bytes of a base, so that they are written without moving.
+fn room_for(blocks: &[Bytes]) -> usize
+    requires { AreBlocks blocks.now }
+{
+    let bytes = blocks.len().saturating_mul(size_of_first(blocks) as usize);
+    bytes.saturating_add(1024)
+}
+
 /// The bytes of a `Stage` message with that record and these blocks.
 #[tactic(auto, unfolding(client_tag::specs::Spelling::base_bytes))]
 pub fn encode_base(alloc: Global, rec: &Record, blocks: &[Bytes]) -> Result<Vec<u8>, NoMemory>
@@ -48,7 +56,7 @@ pub fn encode_base(alloc: Global, rec: &Record, blocks: &[Bytes]) -> Result<Vec<
     requires blocks { AreBlocks blocks.now }
     ensures { IfOk result (λ out. out.items ≡ message_bytes (AStage (record { base = record { rec = rec.now; blocks = blocks.now } }))) }
 {
-    let mut out = Vec::with_capacity(alloc, 1024)?;
+    let mut out = Vec::with_capacity(alloc, room_for(blocks))?;
     out.push(Kind::Stage.byte())?;
     write_record(rec, &mut out)?;
     put_blocks(&mut out, blocks)?;

@@ -8,7 +8,7 @@ ghost use Rattle.client_tag.specs.Ranges.{AreBlocks};
 ghost use Rattle.schedule_text.specs.Limits.{IsOfVolume};
 ghost use Rattle.schedule_text.specs.declared.schedule.Volume.{Volume};
 ghost use Rattle.posting.specs.Letters.{out_of_letter};
-ghost use Rattle.volume_model.specs.Contents.{blocks_in};
+ghost use Rattle.volume_model.specs.Contents.{blocks_in, roots_of};
 ghost use Rattle.client_rules.specs.State.{Beginning as AnyBeginning, Client, Fetching as AnyFetching, Gathering as AnyGathering, Serving as AnyServing, Stages, ignored};
 ghost use Rattle.client_rules.specs.Opening.{dumped_here, fetched_blocks, gathered_here, restarted, staged_from, switched_here};
 ghost use Rattle.client_rules.specs.Serving.{fetches};
@@ -28,7 +28,6 @@ use crate::carried::Carried;
 use crate::fetching::{Fetching, Served};
 use crate::gathering::{Gathering, Turn};
 use crate::phase::Phase;
-use crate::regions::roots_of;
 use client_asking::Step;
 use printed_lines::Line;
 use salus_hash::HmacKey;
@@ -84,16 +83,16 @@ fn stage_choice(
     step: &mut Step,
 ) -> Result<Outcome, NoMemory>
     requires count { length choice.contents ≡ blocks geometry }
+    requires roots { choice.roots ≡ roots_of geometry choice.contents }
     requires sized { AllByRecursion (λ x. length x ≡ geometry.block) choice.contents }
     ensures told { IfOk result (λ made. (volume : Volume) → volume.geometry ≡ geometry → volume.key ≡ key → IsTold volume step.old step.new made (staged_from volume session choice.session choice.number choice.contents (λ r. blocks_in geometry choice.contents r))) }
     ensures begins { IfOk result (BeginsWith geometry key choice.number) }
 {
-    let roots = roots_of(alloc, &geometry, choice.contents.as_slice())?;
     let plan = Plan {
         session,
         from: choice.session,
         seq: choice.number,
-        roots,
+        roots: choice.roots,
         carried: Carried::Volume(choice.contents),
     };
     let beginning = stage(alloc, &key, geometry, plan, step)?;

@@ -1,10 +1,9 @@
-//! The regions of a volume, one after the other: their numbers, their blocks, and the roots of these.
+//! The regions of a volume, one after the other: their numbers and their blocks.
 ghost use Rattle.std.specs.Prelude.{◌≡◌, ◌<◌, ◌^◌, length, IfOk};
 ghost use Rattle.salus_types.specs.Volume.{blocks, regions};
-ghost use Rattle.volume_model.specs.Contents.{all_regions, blocks_in, roots_of};
+ghost use Rattle.volume_model.specs.Contents.{all_regions, blocks_in};
 
-use merkle_region::root;
-use salus_types::{Bytes, Digests, Geometry, Items, NoMemory, Regions};
+use salus_types::{Bytes, Geometry, Items, NoMemory, Regions};
 use std::alloc::Global;
 
 /// The numbers of the regions.
@@ -29,17 +28,4 @@ pub fn region_slice<'a>(geometry: &Geometry, contents: &'a [Bytes], region: u16)
     let (_, rest) = contents.split_at(region as usize * size);
     let (here, _) = rest.split_at(size);
     here
-}
-
-/// The roots of all regions.
-pub fn roots_of(alloc: Global, geometry: &Geometry, contents: &[Bytes]) -> Result<Digests, NoMemory>
-    requires { length contents.now ≡ blocks geometry.now }
-    ensures { IfOk result (λ roots. roots ≡ roots_of geometry.now contents.now) }
-{
-    let mut roots = Items::new(alloc);
-    'regions: for region in 0..geometry.regions() as u16 {
-        let here = region_slice(geometry, contents, region);
-        roots.push(root(geometry.height(), here))?;
-    }
-    Ok(roots)
 }

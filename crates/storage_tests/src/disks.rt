@@ -1,10 +1,11 @@
+//! Disks that fail and stop, and logs that are read by their bytes.
 ghost use Rattle.std.specs.Prelude.{◌≡◌, false, IfOk};
 
 use datanode_log::{Log, LogError};
 use disk_model::{Disk, DiskFault, MemDisk};
 use disk_witness::{Register, SilentDisk};
 use std::alloc::Global;
-use std::test::Fail;
+use std::test::*;
 
 fn load(alloc: Global, disk: MemDisk) -> Result<Log<MemDisk>, LogError>
     ensures { IfOk result (λ log. log.failed ≡ false) }
@@ -34,186 +35,224 @@ fn empty_log(alloc: Global) -> Result<Log<MemDisk>, LogError>
     }
 }
 
-// A log of the entry 11, and an append of aabb that is stopped after so many calls.
-fn stopped(alloc: Global, calls: u64) -> Result<(MemDisk, bool), LogError> {
-    let mut log = empty_log(alloc)?;
+/// The entry 11, and an append of aabb that is stopped after so many calls: whether that was done.
+fn append_stopped(log: &mut Log<MemDisk>, calls: u64) -> Result<bool, LogError>
+    requires { log.old.failed ≡ false }
+{
     match log.append(&[0x11]) {
         Ok(()) => {}
         Err(error) => return Err(error),
     }
     log.stop_after(calls);
-    let added = log.append(&[0xaa, 0xbb]).is_ok();
-    Ok((log.into_disk(), added))
+    Ok(log.append(&[0xaa, 0xbb]).is_ok())
 }
 
-#[test]
-fn a_stopped_append_leaves_the_entries_from_before_or_the_new_one_too(
-    rt: HostRuntime,
-) -> Result<(), Fail> {
-    let alloc = rt.alloc();
-    for calls in 0..5 {
-        for keep in [0, 1, 64] {
-            for fill in [0x00, 0x01, 0xff] {
-                let (mut disk, added) = stopped(alloc, calls)?;
-                assert_eq!(rt; added, calls == 4, "after {calls} calls");
-                disk.crash(keep, fill);
-                let mut log = load(alloc, disk)?;
-                let is_open = calls == 4 || (calls == 3 && (keep > 0 || fill == 0x01));
-                let want = if is_open { 2 } else { 1 };
-                let count = log.count();
-                assert_eq!(rt;
-                    count,
-                    want,
-                    "after {calls} calls, keep {keep}, fill {fill}"
-                );
-                if count > 0 {
-                    let first = log.entry(0)?;
-                    assert_eq!(rt; first.as_slice(), [0x11].as_slice());
-                }
-                if log.count() > 1 {
-                    let second = log.entry(1)?;
-                    assert_eq!(rt; second.as_slice(), [0xaa, 0xbb].as_slice());
-                }
-            }
-        }
-    }
-    Ok(())
-}
-
-#[test]
-fn a_crash_leaves_these_bytes(rt: HostRuntime) -> Result<(), Fail> {
-    let alloc = rt.alloc();
-    let table: [(u64, u64, u8, &[u8]); 9] = [
-        (0, 64, 0xff, b"SALUSLG1\x01\x00\x00\x00\x01\x11\x00"),
-        (1, 0, 0xff, b"SALUSLG1\x01\x00\x00\x00\x01\x11\x00"),
-        (
-            1,
-            1,
-            0x01,
-            b"SALUSLG1\x01\x00\x00\x00\x01\x11\x00\x00\x01\x01\x01\x01\x01\x01",
-        ),
-        (
-            1,
-            64,
-            0xff,
-            b"SALUSLG1\x01\x00\x00\x00\x01\x11\x00\x00\x00\x00\x02\xaa\xbb\x00",
-        ),
-        (
-            2,
-            0,
-            0xff,
-            b"SALUSLG1\x01\x00\x00\x00\x01\x11\x00\x00\x00\x00\x02\xaa\xbb\x00",
-        ),
-        (
-            3,
-            0,
-            0xff,
-            b"SALUSLG1\x01\x00\x00\x00\x01\x11\xff\x00\x00\x00\x02\xaa\xbb\x00",
-        ),
-        (
-            3,
-            0,
-            0x01,
-            b"SALUSLG1\x01\x00\x00\x00\x01\x11\x01\x00\x00\x00\x02\xaa\xbb\x00",
-        ),
-        (
-            3,
-            1,
-            0x00,
-            b"SALUSLG1\x01\x00\x00\x00\x01\x11\x01\x00\x00\x00\x02\xaa\xbb\x00",
-        ),
-        (
-            4,
-            0,
-            0x00,
-            b"SALUSLG1\x01\x00\x00\x00\x01\x11\x01\x00\x00\x00\x02\xaa\xbb\x00",
-        ),
-    ];
-    for (calls, keep, fill, want) in table {
-        let (mut disk, _) = stopped(alloc, calls)?;
-        disk.crash(keep, fill);
-        assert_eq!(rt;
-            disk.content(),
-            want,
-            "after {calls} calls, keep {keep}, fill {fill}"
-        );
-    }
-    Ok(())
-}
-
-#[test]
-fn logs_are_read_by_their_bytes(rt: HostRuntime) -> Result<(), Fail> {
-    let alloc = rt.alloc();
-    let foreign: [&[u8]; 4] = [b"", b"SALUSLG1", b"SALUSCK1\x00", b"saluslg1\x00\x00"];
-    for content in foreign {
-        assert_eq!(rt; load_bytes(alloc, content).err(), Some(LogError::Foreign));
-    }
-    assert_eq!(rt; load_bytes(alloc, b"SALUSLG1\x00")?.count(), 0);
-    assert_eq!(rt;
-        load_bytes(alloc, b"SALUSLG1\x01").err(),
-        Some(LogError::Damaged { at: 8 })
-    );
-    // no gate stands after the entry
-    assert_eq!(rt;
-        load_bytes(alloc, b"SALUSLG1\x01\x00\x00\x00\x01\xaa").err(),
-        Some(LogError::Damaged { at: 8 })
-    );
-    assert_eq!(rt;
-        load_bytes(alloc, b"SALUSLG1\x01\x00\x00\x00\x01\xaa\x01").err(),
-        Some(LogError::Damaged { at: 14 })
-    );
-    assert_eq!(rt;
-        load_bytes(alloc, b"SALUSLG1\x01\x00\x00\x00\x01\xaa\x37\x01")?.count(),
-        1
-    );
-
+/// The disk after that, crashed; and whether the append was done.
+fn crashed(
+    alloc: Global,
+    (calls, keep, fill): (u64, u64, u8),
+) -> Result<(MemDisk, bool), LogError> {
     let mut log = empty_log(alloc)?;
-    log.append(&[0xaa])?;
+    let added = append_stopped(&mut log, calls)?;
+    let mut disk = log.into_disk();
+    disk.crash(keep, fill);
+    Ok((disk, added))
+}
+
+fn is_entry(log: &mut Log<MemDisk>, i: u64, bytes: &[u8]) -> bool {
+    if i >= log.count() {
+        return false;
+    }
+    match log.entry(i) {
+        Ok(entry) => entry.as_slice() == bytes,
+        Err(_) => false,
+    }
+}
+
+/// Whether the log has the entry 11, and behind it aabb or nothing.
+fn has_entries(log: &mut Log<MemDisk>, both: bool) -> bool {
+    let count = log.count();
+    is_entry(log, 0, &[0x11])
+        && if both {
+            count == 2 && is_entry(log, 1, &[0xaa, 0xbb])
+        } else {
+            count == 1
+        }
+}
+
+/// Whether the log, stopped and crashed so, has what the letter says.
+pub fn is_log(alloc: Global, stop: (u64, u64, u8), letter: u8) -> Result<bool, LogError> {
+    let (disk, added) = crashed(alloc, stop)?;
+    let mut log = load(alloc, disk)?;
+    Ok(added == (stop.0 >= 4) && has_entries(&mut log, letter == b'n'))
+}
+
+/// A log of the entry 11, up to the gate behind it.
+const FIRST_ENTRY: &[u8] = b"SALUSLG1\x01\x00\x00\x00\x01\x11";
+
+/// In each row of 12 bytes a number of calls, a keep and a fill; how many bytes a crash leaves behind that entry; and these,
+/// up to eight.
+fn crashes() -> &'static [u8] {
+    b"\x00\x40\xff\x01\x00.......\
+    \x01\x00\xff\x01\x00.......\
+    \x01\x01\x01\x08\x00\x00\x01\x01\x01\x01\x01\x01\
+    \x01\x40\xff\x08\x00\x00\x00\x00\x02\xaa\xbb\x00\
+    \x02\x00\xff\x08\x00\x00\x00\x00\x02\xaa\xbb\x00\
+    \x03\x00\xff\x08\xff\x00\x00\x00\x02\xaa\xbb\x00\
+    \x03\x00\x01\x08\x01\x00\x00\x00\x02\xaa\xbb\x00\
+    \x03\x01\x00\x08\x01\x00\x00\x00\x02\xaa\xbb\x00\
+    \x04\x00\x00\x08\x01\x00\x00\x00\x02\xaa\xbb\x00"
+}
+
+/// Whether the crash of a row leaves its bytes.
+fn leaves(alloc: Global, row: &[u8]) -> bool {
+    let [calls, keep, fill, count, bytes @ ..] = row else {
+        return false;
+    };
+    match crashed(alloc, (u64::from(*calls), u64::from(*keep), *fill)) {
+        Ok((disk, _)) => {
+            disk.content().strip_prefix(FIRST_ENTRY) == bytes.get(..usize::from(*count))
+        }
+        Err(_) => false,
+    }
+}
+
+/// How a file without the mark of a log is read.
+const FOREIGN: u64 = 255;
+
+/// How many entries the file has; where it is no log, `FOREIGN`, or the place where it is damaged.
+fn read_as(alloc: Global, content: &[u8]) -> u64 {
+    match load_bytes(alloc, content) {
+        Ok(log) => log.count(),
+        Err(LogError::Foreign) => FOREIGN,
+        Err(LogError::Damaged { at }) => at,
+        Err(_) => u64::MAX,
+    }
+}
+
+/// In each row of 18 bytes how a file is read, how many bytes it has, and these, up to 16. The third last has no gate after its
+/// entry.
+fn files() -> &'static [u8] {
+    b"\xff\x00................\
+    \xff\x08SALUSLG1........\
+    \xff\x09SALUSCK1\x00.......\
+    \xff\x0asaluslg1\x00\x00......\
+    \x00\x09SALUSLG1\x00.......\
+    \x08\x09SALUSLG1\x01.......\
+    \x08\x0eSALUSLG1\x01\x00\x00\x00\x01\xaa..\
+    \x0e\x0fSALUSLG1\x01\x00\x00\x00\x01\xaa\x01.\
+    \x01\x10SALUSLG1\x01\x00\x00\x00\x01\xaa\x37\x01"
+}
+
+/// Whether the file of a row is read so.
+fn is_read(alloc: Global, row: &[u8]) -> bool {
+    let [found, count, bytes @ ..] = row else {
+        return false;
+    };
+    match bytes.get(..usize::from(*count)) {
+        Some(content) => read_as(alloc, content) == u64::from(*found),
+        None => false,
+    }
+}
+
+/// Whether an append leaves the entry behind its open gate.
+fn appends(alloc: Global) -> Result<bool, LogError> {
+    let mut log = empty_log(alloc)?;
+    let is_added = log.append(&[0xaa]).is_ok();
     let disk = log.into_disk();
-    assert_eq!(rt;
-        disk.content(),
-        b"SALUSLG1\x01\x00\x00\x00\x01\xaa\x00".as_slice()
-    );
+    Ok(is_added && disk.content() == b"SALUSLG1\x01\x00\x00\x00\x01\xaa\x00".as_slice())
+}
 
+/// Whether an append whose second call fails is told so, and leaves no entry.
+fn append_fails(alloc: Global) -> Result<bool, LogError> {
     let mut log = empty_log(alloc)?;
-    log.fail_at(2)?;
-    assert_eq!(rt; log.append(&[0xaa]), Err(LogError::Device));
-    assert!(rt; log.failed());
-    assert_eq!(rt; load(alloc, log.into_disk())?.count(), 0);
-    Ok(())
+    let is_named = log.fail_at(2).is_ok();
+    let is_told = log.append(&[0xaa]) == Err(LogError::Device) && log.failed();
+    let again = load(alloc, log.into_disk())?;
+    Ok(is_named && is_told && again.count() == 0)
+}
+
+fn fails_at_the_second(disk: &mut MemDisk) -> bool {
+    disk.len() == Ok(0) && disk.len() == Err(DiskFault::Device) && disk.sync() == Ok(())
+}
+
+/// Whether each call fails after one more, until a crash.
+fn stops_after_one(disk: &mut MemDisk) -> bool {
+    disk.stop_after(1);
+    let is_stopped = disk.len() == Ok(0)
+        && disk.sync() == Err(DiskFault::Device)
+        && disk.len() == Err(DiskFault::Device);
+    disk.crash(0, 0);
+    is_stopped && disk.len() == Ok(0)
+}
+
+fn is_disk(alloc: Global) -> bool {
+    let mut disk = MemDisk::new(alloc, Vec::new(alloc));
+    disk.fail_at(2).is_ok() && fails_at_the_second(&mut disk) && stops_after_one(&mut disk)
+}
+
+fn is_silent_disk(alloc: Global) -> bool {
+    let mut disk = SilentDisk::new(Vec::new(alloc));
+    let mut bytes = [0u8; 2];
+    disk.write_at(0, b"abc") == Ok(())
+        && disk.cut(2) == Ok(())
+        && disk.sync() == Ok(())
+        && disk.len() == Ok(2)
+        && disk.read(0, &mut bytes) == Ok(())
+        && bytes == *b"ab"
+        && disk.read(1, &mut bytes) == Err(DiskFault::Device)
+}
+
+fn is_register(alloc: Global) -> bool {
+    match Register::create(alloc, MemDisk::new(alloc, Vec::new(alloc))) {
+        Ok(mut register) => register.set(7).is_ok() && register.number() == 7,
+        Err(_) => false,
+    }
+}
+
+/// The row of the first crash that leaves other bytes.
+fn wrong_crash(alloc: Global) -> Option<&'static [u8]> {
+    for row in crashes().chunks(12) {
+        if !leaves(alloc, row) {
+            return Some(row);
+        }
+    }
+    None
+}
+
+/// The row of the first file that is read otherwise.
+fn wrong_file(alloc: Global) -> Option<&'static [u8]> {
+    for row in files().chunks(18) {
+        if !is_read(alloc, row) {
+            return Some(row);
+        }
+    }
+    None
+}
+
+/// What doesn't do as it should.
+fn wrong_part(alloc: Global) -> Option<&'static str> {
+    if !matches!(appends(alloc), Ok(true)) {
+        return Some("an append");
+    }
+    if !matches!(append_fails(alloc), Ok(true)) {
+        return Some("an append that fails");
+    }
+    if !is_disk(alloc) {
+        return Some("a disk in memory");
+    }
+    if !is_silent_disk(alloc) {
+        return Some("a silent disk");
+    }
+    if !is_register(alloc) {
+        return Some("a register");
+    }
+    None
 }
 
 #[test]
-fn disks_fail_where_they_are_asked_to(rt: HostRuntime) -> Result<(), Fail> {
-    let alloc = rt.alloc();
-    let mut disk = MemDisk::new(alloc, Vec::new(alloc));
-    disk.fail_at(2)?;
-    assert_eq!(rt; disk.len(), Ok(0));
-    assert_eq!(rt; disk.len(), Err(DiskFault::Device));
-    assert_eq!(rt; disk.sync(), Ok(()));
-    disk.stop_after(1);
-    assert_eq!(rt; disk.len(), Ok(0));
-    assert_eq!(rt; disk.sync(), Err(DiskFault::Device));
-    assert_eq!(rt; disk.len(), Err(DiskFault::Device));
-    disk.crash(0, 0);
-    assert_eq!(rt; disk.len(), Ok(0));
-
-    let mut silent = SilentDisk::new(Vec::new(alloc));
-    assert_eq!(rt; silent.write_at(0, b"abc"), Ok(()));
-    assert_eq!(rt; silent.cut(2), Ok(()));
-    assert_eq!(rt; silent.sync(), Ok(()));
-    assert_eq!(rt; silent.len(), Ok(2));
-    let mut bytes = [0u8; 2];
-    assert_eq!(rt; silent.read(0, &mut bytes), Ok(()));
-    assert_eq!(rt; bytes.as_slice(), b"ab".as_slice());
-    assert_eq!(rt; silent.read(1, &mut bytes), Err(DiskFault::Device));
-
-    match Register::create(alloc, MemDisk::new(alloc, Vec::new(alloc))) {
-        Ok(mut register) => {
-            register.set(7)?;
-            assert_eq!(rt; register.number(), 7);
-        }
-        Err(refused) => assert_eq!(rt; refused.error, LogError::NoMemory),
-    }
-    Ok(())
+fn logs_and_disks(rt: HostRuntime) {
+    assert_eq!(rt; wrong_crash(rt.alloc()), None);
+    assert_eq!(rt; wrong_file(rt.alloc()), None);
+    assert_eq!(rt; wrong_part(rt.alloc()), None);
 }

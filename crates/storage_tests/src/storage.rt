@@ -4,6 +4,7 @@
 ghost use Rattle.std.specs.Prelude.{◌≡◌, false, IfOk};
 ghost use Rattle.client_tag.specs.Ranges.{IsRecord};
 
+use crate::disks::is_log;
 use client_tag::read_record;
 use datanode_checkpoint::Checkpoint;
 use datanode_log::Log;
@@ -12,7 +13,7 @@ use disk_model::MemDisk;
 use salus_codec::{Fields, put_bytes, put_u8, put_u16, put_u64};
 use salus_types::{Held, NoMemory, Record};
 use std::alloc::Global;
-use std::test::Fail;
+use std::test::*;
 
 fn zeros(out: &mut Vec<u8>, count: usize) -> Result<(), NoMemory> {
     for _ in 0..count {
@@ -245,29 +246,12 @@ fn after_an_append() -> &'static str {
      nnnnnnnnn"
 }
 
-#[test]
-fn a_stopped_call_of_a_store_leaves_what_was_held_or_what_is(rt: HostRuntime) {
-    let alloc = rt.alloc();
-    for which in 0..3 {
-        let letters = after_an_append().as_bytes();
-        for at in 0..letters.len() {
-            let is = is_store(alloc, which, stops_of(at), letters[at]);
-            assert!(rt; is == Ok(true), "{which} {at}");
-        }
+/// What is told of a file that a store is to load.
+fn refusal_of_store(alloc: Global, content: &[u8]) -> Option<StoreError> {
+    match content.to_vec(alloc) {
+        Ok(bytes) => store_of(alloc, Ok(bytes)).err(),
+        Err(_) => Some(StoreError::NoMemory),
     }
-}
-
-#[test]
-fn files_that_no_store_wrote(rt: HostRuntime) -> Result<(), Fail> {
-    let alloc = rt.alloc();
-    let bad = Vec::from_slice(alloc, b"SALUSLG1\x01\x00\x00\x00\x01\x09\x00")?;
-    assert!(rt; store_of(alloc, Ok(bad)).err() == Some(StoreError::BadRecord { at: 0 }));
-    let empty = Vec::from_slice(alloc, b"SALUSLG1\x00")?;
-    let found = load_checkpoint(alloc, MemDisk::new(alloc, empty)).err();
-    assert!(rt; found == Some(StoreError::Foreign));
-    let short = Vec::from_slice(alloc, b"SALUSLG1")?;
-    assert!(rt; store_of(alloc, Ok(short)).err() == Some(StoreError::Foreign));
-    Ok(())
 }
 
 // ---- the checkpoint
@@ -278,6 +262,13 @@ fn load_checkpoint(alloc: Global, disk: MemDisk) -> Result<Checkpoint<MemDisk>, 
     match Checkpoint::load(alloc, disk) {
         Ok(checkpoint) => Ok(checkpoint),
         Err(refused) => Err(refused.error),
+    }
+}
+
+fn refusal_of_checkpoint(alloc: Global, content: &[u8]) -> Option<StoreError> {
+    match content.to_vec(alloc) {
+        Ok(bytes) => load_checkpoint(alloc, MemDisk::new(alloc, bytes)).err(),
+        Err(_) => Some(StoreError::NoMemory),
     }
 }
 
@@ -356,18 +347,6 @@ fn after_a_fold() -> &'static str {
      nnnnnnnnn"
 }
 
-#[test]
-fn a_stopped_fold_leaves_what_was_held_or_what_is(rt: HostRuntime) {
-    let alloc = rt.alloc();
-    let letters = after_a_fold().as_bytes();
-    for at in 0..letters.len() {
-        assert!(rt;
-            is_folded(alloc, stops_of(at), letters[at]) == Ok(true),
-            "{at}"
-        );
-    }
-}
-
 // The part that begins in the lane's first page and ends in its second.
 fn is_crossed(alloc: Global, stop: (u64, u64, u8), letter: u8) -> Result<bool, StoreError> {
     let (calls, keep, fill) = stop;
@@ -385,18 +364,6 @@ fn after_a_crossing() -> &'static str {
      ononnnnnn\
      nnnnnnnnn\
      nnnnnnnnn"
-}
-
-#[test]
-fn a_record_over_two_pages_is_added_or_not(rt: HostRuntime) {
-    let alloc = rt.alloc();
-    let letters = after_a_crossing().as_bytes();
-    for at in 0..letters.len() {
-        assert!(rt;
-            is_crossed(alloc, stops_of(at), letters[at]) == Ok(true),
-            "{at}"
-        );
-    }
 }
 
 fn folded_twice(alloc: Global) -> Result<bool, StoreError> {
@@ -428,8 +395,65 @@ fn formatted(alloc: Global) -> Result<bool, StoreError> {
     Ok(failed && done && is_held(alloc, again.held(), &[3, 0]) == Ok(true))
 }
 
+// ---- all of them
+
+/// Whether a call of that kind, stopped and crashed so, leaves what the letter says.
+fn is_right(alloc: Global, kind: u64, stop: (u64, u64, u8), letter: u8) -> bool {
+    match kind {
+        0..=2 => matches!(is_store(alloc, kind, stop, letter), Ok(true)),
+        3 => matches!(is_log(alloc, stop, letter), Ok(true)),
+        4 => matches!(is_folded(alloc, stop, letter), Ok(true)),
+        _ => matches!(is_crossed(alloc, stop, letter), Ok(true)),
+    }
+}
+
+/// The place of the first letter that isn't right.
+fn wrong_stop(alloc: Global, kind: u64, letters: &[u8]) -> Option<usize> {
+    for at in 0..letters.len() {
+        if !is_right(alloc, kind, stops_of(at), letters[at]) {
+            return Some(at);
+        }
+    }
+    None
+}
+
 #[test]
-fn both_lanes_are_live_in_turn(rt: HostRuntime) {
-    assert!(rt; folded_twice(rt.alloc()) == Ok(true));
-    assert!(rt; formatted(rt.alloc()) == Ok(true));
+fn stopped_calls_leave_what_was_held_or_what_is(rt: HostRuntime) {
+    for (kind, letters) in [
+        (0, after_an_append()),
+        (1, after_an_append()),
+        (2, after_an_append()),
+        (3, after_an_append()),
+        (4, after_a_fold()),
+        (5, after_a_crossing()),
+    ] {
+        let wrong = wrong_stop(rt.alloc(), kind, letters.as_bytes());
+        assert_eq!(rt; wrong, None, "kind {kind}");
+    }
+}
+
+/// What isn't as it should be.
+fn wrong_file(alloc: Global) -> Option<&'static str> {
+    let bad = refusal_of_store(alloc, b"SALUSLG1\x01\x00\x00\x00\x01\x09\x00");
+    if bad != Some(StoreError::BadRecord { at: 0 }) {
+        return Some("an entry that is no record");
+    }
+    if refusal_of_store(alloc, b"SALUSLG1") != Some(StoreError::Foreign) {
+        return Some("a store without a gate");
+    }
+    if refusal_of_checkpoint(alloc, b"SALUSLG1\x00") != Some(StoreError::Foreign) {
+        return Some("a checkpoint over a log");
+    }
+    if !matches!(folded_twice(alloc), Ok(true)) {
+        return Some("two folds");
+    }
+    if !matches!(formatted(alloc), Ok(true)) {
+        return Some("a formatted checkpoint");
+    }
+    None
+}
+
+#[test]
+fn files_are_read_and_both_lanes_are_live_in_turn(rt: HostRuntime) {
+    assert_eq!(rt; wrong_file(rt.alloc()), None);
 }

@@ -9,9 +9,10 @@ use Rattle.merkle_region.specs.Tree.{IsAmong, NoTwoCollide}
 use Rattle.volume_model.specs.Recovering.{Pool, is_above, better_of, is_recoverable, recovered, choice_of}
 use Rattle.client_rules.specs.Opening.{joined_blocks}
 use Rattle.restart_pool.specs.Kept.{Kept}
-use Rattle.restart_pool.specs.Assembled.{contents_of, joined, pool_strings, session_strings}
+use Rattle.restart_pool.specs.Assembled.{contents_by, contents_of, pool_strings, session_strings}
+use Rattle.restart_pool.specs.declared.assemble.Contents.{Contents}
 use Rattle.merkle_region.proofs.Membership.{none-within}
-use Rattle.volume_restart.specs.Choosing.{choice_of_header, chosen, is_below, IsFirstLike, IsNext, NoneLike}
+use Rattle.volume_restart.specs.Choosing.{choice_of_header, chosen, is_below, roots_by, IsFirstLike, IsNext, NoneLike}
 use Rattle.volume_restart.specs.declared.choice.Choice.{Choice}
 use Rattle.volume_restart.proofs.Ordering.{alike, above-like, above-by, like-sym}
 use Rattle.list_lemmas.proofs.Members.{among_flat_map-in}
@@ -81,17 +82,17 @@ apart kept h m none =
     (λ x k. among_flat_map-in (λ (g : Header). session_strings kept.shape kept.held g.session) h x kept.held.headers m k) none
 
 -- a header's choice with these contents
-abbrev pub with_contents : Header → List (List ℕ) → Choice
-with_contents h contents = record { session = h.session; number = h.seq; contents = contents }
+abbrev pub with_contents : Header → Contents → Choice
+with_contents h found = record { session = h.session; number = h.seq; roots = found.roots; contents = found.blocks }
 
 module _ (kept : Kept) where
   pub lost : (h : Header) → contents_of kept h ≡ None → is_recoverable kept.shape kept.held h ≡ false
-  lost h e = is_none joined (recovered kept.shape kept.held h) e
+  lost h e = is_none (contents_by kept.shape) (recovered kept.shape kept.held h) e
 
   -- the choice made by a header whose contents are there is that of the definition
   by_contents : (h : Header) (r : Option (List (List (List ℕ)))) (choice : Choice)
-      → Some choice ≡ option_map (λ contents. record { session = h.session; number = h.seq; contents = contents }) (option_map joined r)
-      → (is_some r ≡ true) × (choice ≡ record { session = h.session; number = h.seq; contents = joined_blocks r })
+      → Some choice ≡ option_map (with_contents h) (option_map (contents_by kept.shape) r)
+      → (is_some r ≡ true) × (choice ≡ record { session = h.session; number = h.seq; roots = roots_by kept.shape r; contents = joined_blocks r })
   by_contents h None choice e = absurd (none-some choice (sym e))
   by_contents h (Some pick) choice e = (refl, same_Some choice _ e)
 

@@ -1,23 +1,34 @@
 -- What a restart chooses among the headers that a pool keeps.
-use Rattle.std.specs.Prelude.{◌≡◌, ℕ, Bool, true, false, ◌==◌, ◌&&◌, if◌then◌else◌, List, take, slice_get, option_map, MatchOption, Option, None, Some}
+use Rattle.std.specs.Prelude.{◌≡◌, ℕ, Bool, true, false, ◌==◌, ◌&&◌, if◌then◌else◌, List, [], map, take, slice_get, option_map, MatchOption, Option, None, Some}
 use Rattle.salus_types.specs.declared.records.Header.{Header}
-use Rattle.merkle_region.specs.Tree.{IsAmong, NoTwoCollide}
+use Rattle.salus_types.specs.Volume.{Shape}
+use Rattle.merkle_region.specs.Tree.{root_of, IsAmong, NoTwoCollide}
 use Rattle.volume_model.specs.Recovering.{recovered, choice_of, is_above}
 use Rattle.client_rules.specs.Opening.{joined_blocks}
 use Rattle.restart_pool.specs.Kept.{Kept}
 use Rattle.restart_pool.specs.Assembled.{contents_of, pool_strings, IsRecovered, NoTwoShare}
 use Rattle.volume_restart.specs.declared.choice.Choice.{Choice}
 
--- a kept header, with the contents of chains that it names
+-- a kept header, with the contents of chains that it names and their roots
 pub record IsChoice (kept : Kept) (choice : Choice) : Type 0 where
   pub header : Header
   pub among : IsAmong header kept.held.headers
   pub session : choice.session ≡ header.session
   pub number : choice.number ≡ header.seq
-  pub contents : IsRecovered kept header choice.contents
+  pub contents : IsRecovered kept header (record { roots = choice.roots; blocks = choice.contents })
+
+-- the roots of the regions of a choice
+abbrev pub roots_by : Shape → Option (List (List (List ℕ))) → List (List ℕ)
+roots_by shape None = []
+roots_by shape (Some pick) = map (root_of shape.height) pick
 
 abbrev pub choice_of_header : Kept → Header → Choice
-choice_of_header kept h = record { session = h.session; number = h.seq; contents = joined_blocks (recovered kept.shape kept.held h) }
+choice_of_header kept h = record {
+  session = h.session;
+  number = h.seq;
+  roots = roots_by kept.shape (recovered kept.shape kept.held h);
+  contents = joined_blocks (recovered kept.shape kept.held h);
+}
 
 -- the greatest recoverable header, with its contents
 abbrev pub chosen : Kept → Option Choice
@@ -49,7 +60,7 @@ IsNext headers tried next =
 
 -- a header with its contents, if it is recoverable
 abbrev pub choice_by : Kept → Header → Option Choice
-choice_by kept h = option_map (λ contents. record { session = h.session; number = h.seq; contents = contents }) (contents_of kept h)
+choice_by kept h = option_map (λ found. record { session = h.session; number = h.seq; roots = found.roots; contents = found.blocks }) (contents_of kept h)
 
 -- the header isn't recoverable, if it is of this session and number
 abbrev pub NotLike : Kept → Header → Header → Type 0

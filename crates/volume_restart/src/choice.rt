@@ -5,14 +5,16 @@ ghost use Rattle.volume_model.specs.Recovering.{is_above};
 ghost use Rattle.volume_restart.specs.Choosing.{better, choice_by, chosen, is_below, is_like, ChoosesRight, IsChoice, IsFirstLike, IsNext, NotLike, NoneLike};
 
 use restart_pool::Pool;
-use salus_types::{Blocks, Header, NoMemory};
+use salus_types::{Blocks, Digests, Header, NoMemory};
 use std::alloc::Global;
 
-/// What a restart chooses: the first so many batches of a session, and the contents after them.
+/// What a restart chooses: the first so many batches of a session, and the contents after them with the root of each
+/// region.
 #[derive(Drop)]
 pub struct Choice {
     pub session: u64,
     pub number: u64,
+    pub roots: Digests,
     pub contents: Blocks,
 }
 
@@ -86,7 +88,8 @@ fn choice_by(alloc: Global, pool: &Pool, header: &Header) -> Result<Option<Choic
         Some(contents) => Ok(Some(Choice {
             session: header.session,
             number: header.seq,
-            contents,
+            roots: contents.roots,
+            contents: contents.blocks,
         })),
         None => Ok(None),
     }

@@ -17,6 +17,9 @@ returns c =
           c.nothing_acknowledged_is_lost.ensures.kept _ _ _ trace c.requires follows none unforged by guarded,
           c.nothing_acknowledged_is_lost.ensures.found _ _ _ trace c.requires follows none unforged by guarded,
         );
+        covered = λ none unforged by guarded. c.counting_nodes_cover.ensures _ _ _ trace c.requires follows none unforged by guarded;
+        reads = λ none unforged calm by. c.reads_end_beside_every_lie.ensures _ _ _ trace c.requires follows none unforged calm by;
+        opens = λ none unforged calm by quiet. c.last_session_opens.ensures _ _ _ trace c.requires follows none unforged calm by quiet;
         closed_steps = λ closed none. c.runs_are_apart.ensures.steps _ _ _ trace c.requires closed follows none r.client;
         closed_lines = λ closed none. c.runs_are_apart.ensures.lines _ _ _ trace r.course.told c.requires closed follows none r.told;
         closed_due = λ closed. c.runs_are_apart.ensures.due _ _ _ trace c.requires closed follows;

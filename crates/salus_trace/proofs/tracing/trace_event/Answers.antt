@@ -9,7 +9,7 @@ step-requires-clause-newest c = c.requires.kept.3.1.newest
 
 pub returns : goal.returns
 returns c = λ volume all at before.
-    after_event volume all c.args.number c.args.event c.args.world.now c.step.new.self c.in_ok-step.ensures c.requires.low at before
+    after_event volume all c.args.number c.args.event c.args.world.now c.step.new.self c.in_ok-step.ensures.does c.requires.low at before
 
 pub returns-in-Settle : goal.returns-in-Settle
 returns-in-Settle c = λ volume all at before.

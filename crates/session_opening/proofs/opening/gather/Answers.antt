@@ -1,7 +1,7 @@
 use Rattle.std.proofs.Common.{◌≡◌, ◌∙◌, [], ◌∷◌, length, rules, refl, sym, ap, ap₂, subst, arith}
 use Rattle.std.specs.List.{AllByRecursion}
 use Rattle.salus_types.specs.Volume.{blocks}
-use Rattle.volume_model.specs.Contents.{blocks_in}
+use Rattle.volume_model.specs.Contents.{blocks_in, roots_of}
 use Rattle.printed_lines.specs.declared.line.Line.TheVariants as line
 use Rattle.client_rules.specs.State.{Closed}
 use Rattle.client_rules.specs.Opening.{gathered_here, staged_from}
@@ -39,6 +39,11 @@ returns-in_ok-push-in-Lost-clause-told c = λ volume g geometry key stands apart
 pub stage_choice-requires-clause-count : goal.stage_choice-requires-clause-count
 stage_choice-requires-clause-count c =
     (subst (λ (t : Turn). IsWhole (gathers_in c.args.gathering) t) c.in-Chose.is c.in_ok-turn.ensures.whole).0 ∙ ap blocks (sym c.geometry-geometry.ensures)
+
+pub stage_choice-requires-clause-roots : goal.stage_choice-requires-clause-roots
+stage_choice-requires-clause-roots c =
+    subst (λ s. c.in-Chose.choice.roots ≡ roots_of s c.in-Chose.choice.contents) (sym c.geometry-geometry.ensures)
+    (subst (λ (t : Turn). IsWhole (gathers_in c.args.gathering) t) c.in-Chose.is c.in_ok-turn.ensures.whole).3
 
 pub stage_choice-requires-clause-sized : goal.stage_choice-requires-clause-sized
 stage_choice-requires-clause-sized c =

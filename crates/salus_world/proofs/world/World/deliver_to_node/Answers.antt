@@ -1,15 +1,16 @@
-use Rattle.std.proofs.Common.{◌∙◌, ◌+◌, List, ℕ, Some, refl, sym, ap}
+use Rattle.run_rules.specs.Knowing.{input_of_post}
+use Rattle.std.proofs.Common.{◌≡◌, ◌∙◌, ◌+◌, List, ℕ, Some, refl, sym, ap}
 use Rattle.salus_types.specs.declared.names.Sender.TheVariants as sender
 use Rattle.salus_model.specs.declared.trace.Handed.TheVariants as handed
 use Rattle.salus_model.specs.Following.{posted}
 use Rattle.replica_rules.specs.Rules.{Receives}
 use Rattle.salus_world.specs.declared.world.World.{World}
-use Rattle.salus_world.proofs.Acting.{Posts, answered_kept, marks_set, input_at}
+use Rattle.salus_world.proofs.Acting.{Posts, answered_kept, marks_set, input_at, passed_at, same_message}
 use Rattle.salus_world.proofs.NodeSteps.{posted_sent}
 use Rattle.salus_world.proofs.world.World.deliver_to_node.Goals as goal
 
-pub returns : goal.returns
-returns c = λ volume all b n course kept.
+pub returns-clause-steps : goal.returns-clause-steps
+returns-clause-steps g c = λ origin volume all b n course kept.
     let old = c.args.self.now in
     let outcome = c.in_ok-outcome.outcome in
     let outs = c.into_vec.result.items in
@@ -18,10 +19,18 @@ returns c = λ volume all b n course kept.
     let index = c.args.index in
     let what = handed.Deliver (index + 1) in
     let mid = c.mark_delivered.new.sent.items in
-    let now : World = record { geometry = old.geometry; client = old.client; nodes = c.hand_at.new.nodes; sent = c.post.new.sent; lowest = old.lowest; lines = old.lines } in
+    let now : World _ _ _ = record { geometry = old.geometry; client = old.client; nodes = c.hand_at.new.nodes; sent = c.post.new.sent; lowest = old.lowest; lines = old.lines } in
     let added : Posts (sender.Node name) outs mid old now = record { sent = c.in_ok-post.ensures; posts = c.mark_delivered.ensures.posts; lowest = refl; geometry = refl } in
-    answered_kept volume all b n old now course kept name c.requires.of c.place_of-place.result c.place_of-place.ensures.value what outs mid added refl refl
-    (marks_set volume all b n old now course kept (sender.Node name) outs mid added what index c.requires.inside c.mark_delivered.ensures.marks (λ k. refl))
+    answered_kept origin volume all b n old now course kept name c.requires.of c.place_of-place.result c.place_of-place.ensures.value what outs mid added refl refl
+    (marks_set origin volume all b n old now course kept (sender.Node name) outs mid added what index c.requires.inside c.mark_delivered.ensures.marks (λ k. refl))
     (Receives m.from c.as_slice.result.now) outcome (sym c.into_vec.ensures) c.in_ok-outcome.ensures
-    (λ posts front. input_at volume all b n old now course kept index (posted m) (posted_sent old.sent.items index m c.message_at-message.ensures) posts front ∙ ap (λ (l : List ℕ). Some (Receives m.from l)) (sym c.as_slice.ensures))
+    (λ posts front. input_at origin volume all b n old now course kept index (posted m) (posted_sent old.sent.items index m c.message_at-message.ensures) posts front ∙ ap (λ (l : List ℕ). Some (Receives m.from l)) (sym c.as_slice.ensures))
     (λ posts known. refl) refl
+
+pub returns-clause-moments : goal.returns-clause-moments
+returns-clause-moments g c = λ p at.
+    let old = c.args.self.now in
+    let m = c.message_at-message.result.now in
+    let same : posted m ≡ p = same_message old.sent.items c.args.index m p c.message_at-message.ensures at in
+    let input : Receives m.from c.as_slice.result.now ≡ input_of_post p = ap (λ (l : List ℕ). Receives m.from l) c.as_slice.ensures ∙ ap input_of_post same in
+    passed_at old.nodes.items c.hand_at.new.nodes.items c.place_of-place.result _ (Receives m.from c.as_slice.result.now) (input_of_post p) c.in_ok-outcome.outcome c.place_of-place.ensures.value input c.in_ok-outcome.ensures

@@ -11,12 +11,12 @@ use Rattle.salus_world.proofs.Acting.{Posts, heard_kept, marks_same}
 use Rattle.salus_world.proofs.world.World.lie_to_client.Goals as goal
 
 pub receive-requires : goal.receive-requires
-receive-requires c =
-    let kept = c.requires.kept.5 in
+receive-requires g c =
+    let kept = c.requires.kept.6 in
     subst (λ (s : Shape). IsPartyOfVolume s c.args.from) (kept.geometry ∙ sym kept.shape) c.requires.from
 
-pub returns : goal.returns
-returns c = λ volume all b n course kept.
+pub returns-clause-steps : goal.returns-clause-steps
+returns-clause-steps g c = λ origin volume all b n course kept.
     let step = c.in_ok-step.step in
     let client = c.tell.ensures.client in
     let old = c.args.self.now in
@@ -24,9 +24,9 @@ returns c = λ volume all b n course kept.
     let bytes = c.args.bytes.now in
     let added : Posts sender.Client step.outs.items old.sent.items old now =
     record { sent = c.in_ok-tell.ensures.sent; posts = refl; lowest = c.tell.ensures.same.1; geometry = c.tell.ensures.same.0 } in
-    heard_kept volume all b n old now course kept (handed.Lie c.args.from bytes) step.outs.items step.lines.items old.sent.items added
+    heard_kept origin volume all b n old now course kept (handed.Lie c.args.from bytes) step.outs.items step.lines.items old.sent.items added
     (ap (λ v. v.items) c.tell.ensures.nodes) c.in_ok-tell.ensures.lines
-    (marks_same volume all b n old now course kept sender.Client step.outs.items old.sent.items added (handed.Lie c.args.from bytes) refl (λ k. refl))
+    (marks_same origin volume all b n old now course kept sender.Client step.outs.items old.sent.items added (handed.Lie c.args.from bytes) refl (λ k. refl))
     (ap shape_of client ∙ c.receive.ensures.shape) refl step refl refl c.args.from bytes c.requires.from (λ posts front. refl) refl
     (λ d is apart. subst (λ (cl : ClientNode). IsTold volume (told volume d n (news_from c.args.from bytes)) cl step) (sym client) (c.in_ok-step.ensures.rules volume d n is apart))
     (ap newest_of client ∙ c.receive.ensures.newest)

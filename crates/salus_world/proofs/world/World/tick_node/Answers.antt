@@ -3,19 +3,23 @@ use Rattle.salus_types.specs.declared.names.Sender.TheVariants as sender
 use Rattle.salus_model.specs.declared.trace.Handed.TheVariants as handed
 use Rattle.replica_rules.specs.Rules.{Ticks}
 use Rattle.salus_world.specs.declared.world.World.{World}
-use Rattle.salus_world.proofs.Acting.{Posts, answered_kept, marks_same}
+use Rattle.salus_world.proofs.Acting.{Posts, answered_kept, marks_same, passed_at}
 use Rattle.salus_world.proofs.world.World.tick_node.Goals as goal
 
-pub returns : goal.returns
-returns c = λ volume all b n course kept.
+pub returns-clause-steps : goal.returns-clause-steps
+returns-clause-steps g c = λ origin volume all b n course kept.
     let old = c.args.self.now in
     let outcome = c.in_ok-outcome.outcome in
     let outs = c.into_vec.result.items in
     let name = c.args.name in
     let what = handed.Tick in
     let mid = old.sent.items in
-    let now : World = record { geometry = old.geometry; client = old.client; nodes = c.tick_at.new.nodes; sent = c.post.new.sent; lowest = old.lowest; lines = old.lines } in
+    let now : World _ _ _ = record { geometry = old.geometry; client = old.client; nodes = c.tick_at.new.nodes; sent = c.post.new.sent; lowest = old.lowest; lines = old.lines } in
     let added : Posts (sender.Node name) outs mid old now = record { sent = c.in_ok-post.ensures; posts = refl; lowest = refl; geometry = refl } in
-    answered_kept volume all b n old now course kept name c.requires.of c.place_of-place.result c.place_of-place.ensures.value what outs mid added refl refl
-    (marks_same volume all b n old now course kept (sender.Node name) outs mid added what refl (λ k. refl))
+    answered_kept origin volume all b n old now course kept name c.requires.of c.place_of-place.result c.place_of-place.ensures.value what outs mid added refl refl
+    (marks_same origin volume all b n old now course kept (sender.Node name) outs mid added what refl (λ k. refl))
     Ticks outcome (sym c.into_vec.ensures) c.in_ok-outcome.ensures (λ posts front. refl) (λ posts known. refl) refl
+
+pub returns-clause-moments : goal.returns-clause-moments
+returns-clause-moments g c =
+    passed_at c.args.self.now.nodes.items c.tick_at.new.nodes.items c.place_of-place.result _ Ticks Ticks c.in_ok-outcome.outcome c.place_of-place.ensures.value refl c.in_ok-outcome.ensures

@@ -1,0 +1,11 @@
+pub mod Present
+pub mod Handled
+pub mod Serves
+pub mod Opens
+pub mod Fits
+pub mod Kept
+pub mod Rooted
+pub mod Said
+pub mod Along
+pub mod Fair
+pub mod Run

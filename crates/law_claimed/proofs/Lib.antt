@@ -1,0 +1,17 @@
+pub mod Batches
+pub mod Tables
+pub mod Begun
+pub mod Accounted
+pub mod Blocks
+pub mod Ended
+pub mod Requested
+pub mod Noted
+pub mod Leads
+pub mod Heard
+pub mod Voted
+pub mod Claiming
+pub mod Certified
+pub mod Stopping
+pub mod Acknowledged
+pub mod Through
+pub mod Sessions

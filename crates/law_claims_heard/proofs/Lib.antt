@@ -1,0 +1,5 @@
+pub mod Moments
+pub mod Words
+pub mod Known
+pub mod Heard
+pub mod Law

@@ -1,0 +1,4 @@
+pub mod Quietly
+pub mod Lines
+pub mod Unstruck
+pub mod Run

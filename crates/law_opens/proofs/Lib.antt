@@ -1,0 +1,13 @@
+pub mod Quietly
+pub mod Awaiting
+pub mod Passing
+pub mod ClientOwes
+pub mod NodeOwes
+pub mod Began
+pub mod Known
+pub mod Standing
+pub mod Answering
+pub mod Memory
+pub mod Showing
+pub mod Along
+pub mod Ended

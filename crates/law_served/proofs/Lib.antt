@@ -1,0 +1,15 @@
+pub mod Extending
+pub mod Client
+pub mod Submits
+pub mod Bases
+pub mod Node
+pub mod Shaped
+pub mod Words
+pub mod Posts
+pub mod Along
+pub mod Fronts
+pub mod Sent
+pub mod Stepped
+pub mod Coming
+pub mod Come
+pub mod Law

@@ -1,4 +1,0 @@
-pub mod Readable
-pub mod Answering
-pub mod Fresh
-pub mod Uniform

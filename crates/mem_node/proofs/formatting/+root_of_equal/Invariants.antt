@@ -1,4 +1,0 @@
-use Rattle.mem_node.proofs.formatting.+root_of_equal.Given as goal
-
-abbrev pub decreases-root_of_equal : goal.decreases-root_of_equal
-decreases-root_of_equal l = l.height

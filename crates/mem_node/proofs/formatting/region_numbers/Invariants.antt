@@ -1,6 +1,0 @@
-use Rattle.std.proofs.Common.{◌≡◌}
-use Rattle.std.specs.List.{range_with_len}
-use Rattle.mem_node.proofs.formatting.region_numbers.Given as goal
-
-abbrev pub invariant-regions : goal.invariant-regions
-invariant-regions l = l.numbers.items ≡ range_with_len 0 l.g

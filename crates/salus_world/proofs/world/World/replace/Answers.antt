@@ -1,7 +1,0 @@
-use Rattle.std.proofs.Common.{refl}
-use Rattle.salus_world.proofs.Acting.{replace_done}
-use Rattle.salus_world.proofs.world.World.replace.Goals as goal
-
-pub returns : goal.returns
-returns c = λ number volume all course low at kept.
-    replace_done volume all number c.args.self.now _ course low kept c.args.name c.requires.of c.place_of-place.result c.place_of-place.ensures.value refl refl refl refl refl c.in_ok-replace_at.ensures
