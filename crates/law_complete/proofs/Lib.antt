@@ -1,1 +1,4 @@
+pub mod Ending
+pub mod Served
 pub mod Whole
+pub mod Roomy

@@ -1,1 +1,1 @@
-pub mod Answering
+-- This crate has no definitions of its own.

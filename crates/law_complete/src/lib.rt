@@ -1,25 +1,25 @@
-//! Quiet runs are complete: what is left of that law once sessions open (`law_opens`) and requests are done (`law_claimed`).
-//! Its one call does nothing.
+//! Quiet runs are complete: the laws of the sessions that open, of the requests that are done and of the batches that are claimed,
+//! put together. And reads end beside lies, without a premise on room, where each group always has a node that counts. Its calls do
+//! nothing; their clauses are the laws.
 #![tactic(auto)]
 
-ghost use Rattle.std.specs.Prelude.{List};
+ghost use Rattle.std.specs.Prelude.{false, List};
 ghost use Rattle.schedule_text.specs.Limits.{IsWithinLimits};
 ghost use Rattle.schedule_text.specs.declared.schedule.Event.{Event};
 ghost use Rattle.schedule_text.specs.declared.schedule.Volume.{Volume};
 ghost use Rattle.salus_model.specs.declared.trace.TraceStep.{TraceStep};
-ghost use Rattle.salus_model.specs.Complete.{CompleteWhenQuiet};
+ghost use Rattle.salus_model.specs.Complete.{CompleteWhenQuiet, ReadsBesideLies};
 ghost use Rattle.salus_model.specs.Following.{Follows, Posted};
 ghost use Rattle.salus_model.specs.Forgery.{NoForgery};
-ghost use Rattle.salus_model.specs.Quiet.{Quiet};
+ghost use Rattle.salus_model.specs.Guarding.{Guarded};
 ghost use Rattle.salus_model.specs.Seen.{NoCollision};
 ghost use Rattle.run_rules.specs.Calm.{Calm};
 ghost use Rattle.run_rules.specs.Run.{IsByRules, formatted_first};
-ghost use Rattle.law_complete.specs.Answering.{IsAnswered};
 
-/// Does nothing: its clause is the law, as far as it is proved. In a run that follows a schedule in its limits, by the rules of
-/// nodes and client from a formatted volume on, in which calls fail only where they may, no two different strings seen share a
-/// digest and no tag is forged: if it is complete when it is quiet hangs on one thing alone that isn't shown, that in a quiet
-/// run the blocks that are asked for come and each batch is claimed (`IsAnswered`).
+/// Does nothing: its clause is the law. A run that follows a schedule in its limits, by the rules of nodes and client from a formatted
+/// volume on, in which calls fail only where they may, no two different strings seen share a digest and no tag is forged, is complete
+/// when it is quiet: of the requests that the client took since its last crash each is done, and the last session that it took a
+/// request to open since then was opened.
 pub fn quiet_runs_are_complete()
     ensures { (volume : Volume) (events : List Event) (posts : List Posted) (trace : List TraceStep)
         → IsWithinLimits (record { volume = volume; events = events })
@@ -28,6 +28,20 @@ pub fn quiet_runs_are_complete()
         → NoForgery volume events posts trace
         → Calm events trace
         → IsByRules volume (formatted_first volume) posts trace
-        → (Quiet events posts trace → IsAnswered volume events posts trace)
         → CompleteWhenQuiet volume events posts trace }
+{}
+
+/// Does nothing: its clause is the law. In such a run, where no lie carries the client's name and each group has a node that counts at
+/// every step, a sound server has room for every part. So a read ends with its block once every message between the client and that
+/// server was handed over.
+pub fn reads_end_with_room()
+    ensures { (volume : Volume) (events : List Event) (posts : List Posted) (trace : List TraceStep)
+        → IsWithinLimits (record { volume = volume; events = events })
+        → Follows events posts trace
+        → NoCollision volume events posts trace
+        → NoForgery volume events posts trace
+        → Calm events trace
+        → IsByRules volume (formatted_first volume) posts trace
+        → Guarded volume events posts trace
+        → ReadsBesideLies volume events posts (λ earlier step. false) trace }
 {}

@@ -1,17 +1,15 @@
 -- Along a run: a sound node has begun the session that it has.
-use Rattle.std.proofs.Common.{◌≡◌, ◌∙◌, ◌⊎◌, inl, inr, ℕ, ◌+◌, ◌^◌, ◌<◌, ◌≤◌, Bool, true, false, if◌then◌else◌, List, [], ◌∷◌, ◌++◌, Option, None, Some, refl, sym, ap, subst, arith, append_assoc, append-nil}
-use Rattle.std.specs.Prelude.{option_map, Result, Ok}
+use Rattle.std.proofs.Common.{◌≡◌, ◌∙◌, inl, inr, ℕ, ◌+◌, ◌<◌, ◌≤◌, Bool, true, false, if◌then◌else◌, List, [], ◌∷◌, ◌++◌, Option, None, Some, refl, sym, ap, subst, arith, append_assoc, append-nil}
+use Rattle.std.specs.Prelude.{option_map, Ok}
 use Rattle.std.specs.Option.{option_map_or}
-use Rattle.std.specs.List.{AllByRecursion}
 use Rattle.std.proofs.lemmas.Bool.{true≢false, cases_lt}
 use Rattle.std.proofs.lemmas.Option.{same_Some}
-use Rattle.salus_types.specs.Volume.{Shape, regions}
+use Rattle.salus_types.specs.Volume.{Shape}
 use Rattle.salus_types.specs.declared.names.NodeName.{NodeName}
 use Rattle.salus_types.specs.declared.names.Sender.{Sender}
 use Rattle.salus_types.specs.declared.names.Sender.TheVariants as sender
 use Rattle.salus_types.specs.declared.records.Record.{Record}
 use Rattle.salus_types.specs.declared.records.Base.{Base}
-use Rattle.salus_types.specs.declared.records.Held.{Held}
 use Rattle.salus_message.specs.declared.carried.Stage.{Stage}
 use Rattle.salus_message.specs.declared.wire.Message.{Message}
 use Rattle.salus_message.specs.Reading.{message_at}
@@ -23,7 +21,7 @@ use Rattle.schedule_text.specs.declared.schedule.Volume.{Volume}
 use Rattle.schedule_text.specs.declared.schedule.Event.{Event}
 use Rattle.merkle_region.specs.Tree.{IsAmong, NoTwoCollide}
 use Rattle.merkle_region.proofs.Membership.{among_either}
-use Rattle.volume_model.specs.Groups.{is_client, same_node, same_party}
+use Rattle.volume_model.specs.Groups.{is_client, same_party}
 use Rattle.volume_model.specs.Parts.{Session}
 use Rattle.salus_model.specs.declared.trace.TraceStep.{TraceStep}
 use Rattle.salus_model.specs.Judge.{Judge, known_at}
@@ -33,14 +31,14 @@ use Rattle.salus_model.specs.Following.{Posted, posted_at, sent_by}
 use Rattle.salus_model.specs.Forgery.{IsTagged, IsPartOf}
 use Rattle.salus_model.specs.Guarding.{is_lied_for}
 use Rattle.salus_model.specs.Hearing.{News, Silence, Past, news_in, news_of, judge_of}
-use Rattle.salus_model.specs.Due.{past_of, history_from}
+use Rattle.salus_model.specs.Due.{past_of}
 use Rattle.salus_model.specs.Complete.{IsSound}
 use Rattle.client_rules.specs.State as state
 use Rattle.client_rules.specs.State.{Told}
 use Rattle.client_rules.specs.Opening.{base_record}
 use Rattle.client_rules.specs.Rules.{told, ticked, is_tick, client_step}
 use Rattle.replica_rules.specs.Leading.{new_leader}
-use Rattle.replica_rules.specs.Nodes.{Memory, NodeState, loaded_as}
+use Rattle.replica_rules.specs.Nodes.{Memory, NodeState, begun_with}
 use Rattle.replica_rules.specs.Rules.{Input, Receives, Ticks, planned, handled}
 use Rattle.run_rules.specs.Calm.{CalmFrom, MayFail}
 use Rattle.run_rules.specs.Knowing.{KnownNode, fresh, input_of_post, input_of, known_to}
@@ -50,7 +48,7 @@ use Rattle.list_lemmas.proofs.Each.{OfSome}
 use Rattle.list_lemmas.proofs.Members.{among_all}
 use Rattle.list_lemmas.proofs.Tests.{by_bool, way_with}
 use Rattle.law_lemmas.proofs.Growing.{Grows, extended, tagged-grows}
-use Rattle.law_lemmas.proofs.Named.{node-itself, one-node}
+use Rattle.law_lemmas.proofs.Named.{one-node}
 use Rattle.law_lemmas.proofs.Numbered.{IsSized}
 use Rattle.law_lemmas.proofs.Settled.{EachKnown}
 use Rattle.law_history.specs.Handing.{steps_in}
@@ -65,11 +63,11 @@ use Rattle.law_asked.proofs.Along as asked
 use Rattle.law_served.proofs.Bases.{IsRightBase}
 use Rattle.law_served.proofs.Client.{StagedBy, IsSentBy, AllSentBy, ticked_sent}
 use Rattle.law_served.proofs.Extending.{turn_on, base-number}
-use Rattle.law_served.proofs.Node.{HoldsLater, Stands, InputFits, MessageFits, BringsSwitch, Steps, steps}
+use Rattle.law_served.proofs.Node.{Stands, InputFits, Steps, steps}
 use Rattle.law_served.proofs.Along as served
 use Rattle.law_served.proofs.Fronts.{node_listed}
 use Rattle.law_sessions.specs.Beginning.{as_list, input_at, inputs_in, node_after}
-use Rattle.law_sessions.proofs.Since.{known_more, inputs_more, after_more, stays_more, handles}
+use Rattle.law_sessions.proofs.Since.{known_more, inputs_more, before_last, after_more, stays_more, handles}
 use Rattle.law_sessions.proofs.Plain.{IsPlain, LaterPlain, BringsPlain, later_then}
 use Rattle.law_sessions.proofs.Switching.{none_some, IsSwitching, switch_brought, new_leader_then, BeginsFrom, begins_from, switched_session}
 
@@ -85,6 +83,8 @@ pub record IsStart (shape : Shape) (key : List ℕ) (judge : Judge) (g : ℕ) (n
   pub turn : IsInTurn (IsPartOf shape key known g) (IsViewOf shape known g) before.replica
   pub leader : before.leader ≡ new_leader before.replica.view.number []
   pub number : before.replica.view.number ≡ known.base
+  pub parts : before.parts ≡ []
+  pub begun : before.begun ≡ Some known.base
 
 start_more : (shape : Shape) (key : List ℕ) (before now : Judge) → EachKnown before (IsSized shape) → Grows before now → (g : ℕ) (node : NodeState) → IsStart shape key before g node → IsStart shape key now g node
 start_more shape key before now sized grows g node s =
@@ -98,10 +98,18 @@ start_more shape key before now sized grows g node s =
       turn = turn_on shape key g s.known (sized s.known node.held.session s.at) found.0 s.before.replica s.turn;
       leader = s.leader;
       number = s.number;
+      parts = s.parts;
+      begun = s.begun;
     }
 
-start_of : (shape : Shape) (key : List ℕ) (judge : Judge) (g : ℕ) (node : NodeState) (s : Stands shape key judge g node.held node.memory) → s.m.leader ≡ new_leader s.m.replica.view.number [] → s.m.replica.view.number ≡ s.known.base → IsStart shape key judge g node
-start_of shape key judge g node s new number = record { before = s.m; there = s.there; session = s.session; known = s.known; at = s.at; turn = s.turn; leader = new; number = number }
+start_of : (shape : Shape) (key : List ℕ) (judge : Judge) (g : ℕ) (node : NodeState) (s : Stands shape key judge g node.held node.memory) → s.m.leader ≡ new_leader s.m.replica.view.number [] → s.m.replica.view.number ≡ s.known.base
+    → s.m.parts ≡ [] → s.m.begun ≡ Some s.known.base → IsStart shape key judge g node
+start_of shape key judge g node s new number parts begun =
+    record { before = s.m; there = s.there; session = s.session; known = s.known; at = s.at; turn = s.turn; leader = new; number = number; parts = parts; begun = begun }
+
+-- a base without writes tells with which number its session begins
+pub tells_begun : (base : Base) → IsPlain base.rec → begun_with base ≡ Some base.rec.header.seq
+tells_begun base plain = ap (λ (t : Bool). if t then None else Some base.rec.header.seq) plain
 
 -- a right base without writes has the number with which its session starts
 plain_number : (shape : Shape) (key : List ℕ) (judge : Judge) (g : ℕ) (base : Base) (right : IsRightBase shape key judge g base) → IsPlain base.rec → base.rec.header.seq ≡ right.known.base
@@ -176,6 +184,8 @@ module _ (volume : Volume) (events : List Event) (posts : List Posted) (trace : 
     pub whole : done ≡ first ++ since
     pub start : IsStart shape volume.key judge name.region (node_after volume posts name first)
     pub same : (node_after volume posts name first).held.session ≡ node.held.session
+    pub below : (xs ys : List TraceStep) (u : TraceStep) → done ≡ xs ++ u ∷ ys → (node_after volume posts name xs).held.session ≤ node.held.session
+    pub low : (xs ys : List TraceStep) (u : TraceStep) → first ≡ xs ++ u ∷ ys → (node_after volume posts name xs).held.session < node.held.session
     pub inputs : List Input
     pub are : inputs ≡ inputs_in posts name since
     pub tagged : IsTaggedIn judge inputs
@@ -316,6 +326,20 @@ module _ (volume : Volume) (events : List Event) (posts : List Posted) (trace : 
     are_more : b.inputs ++ as_list (input_at posts name t) ≡ inputs_in posts name (b.since ++ t ∷ [])
     are_more = ap (λ (l : List Input). l ++ as_list (input_at posts name t)) b.are ∙ sym (inputs_more posts name b.since t)
 
+    is_here : node_after volume posts name done ≡ known.state
+    is_here = ap (λ (k : KnownNode). k.state) a.known_is
+
+    -- its session falls nowhere before
+    below_more : (e : ℕ) → known.state.held.session ≤ e → (xs ys : List TraceStep) (u : TraceStep) → done ++ t ∷ [] ≡ xs ++ u ∷ ys → (node_after volume posts name xs).held.session ≤ e
+    below_more e up =
+        before_last (λ xs. (node_after volume posts name xs).held.session ≤ e) done t (subst (λ (k : NodeState). k.held.session ≤ e) (sym is_here) up)
+        (λ xs ys u same. (let low : (node_after volume posts name xs).held.session ≤ known.state.held.session = b.below xs ys u same in omega (arith, low, up)))
+
+    low_more : (e : ℕ) → known.state.held.session < e → (xs ys : List TraceStep) (u : TraceStep) → done ++ t ∷ [] ≡ xs ++ u ∷ ys → (node_after volume posts name xs).held.session < e
+    low_more e up =
+        before_last (λ xs. (node_after volume posts name xs).held.session < e) done t (subst (λ (k : NodeState). k.held.session < e) (sym is_here) up)
+        (λ xs ys u same. (let low : (node_after volume posts name xs).held.session ≤ known.state.held.session = b.below xs ys u same in omega (arith, low, up)))
+
     still : input_at posts name t ≡ None → Begun judge_then t.sent (done ++ t ∷ []) known.state
     still is = record {
       first = b.first;
@@ -323,6 +347,8 @@ module _ (volume : Volume) (events : List Event) (posts : List Posted) (trace : 
       whole = since_more;
       start = start_more shape volume.key judge judge_then sized grows name.region (node_after volume posts name b.first) b.start;
       same = b.same;
+      below = below_more known.state.held.session (omega arith);
+      low = b.low;
       inputs = b.inputs;
       are = sym (append-nil b.inputs) ∙ (ap (λ (o : Option Input). b.inputs ++ as_list o) (sym is) ∙ are_more);
       tagged = tagged_more b.tagged;
@@ -355,6 +381,8 @@ module _ (volume : Volume) (events : List Event) (posts : List Posted) (trace : 
         whole = since_more;
         start = start_more shape volume.key judge judge_then sized grows name.region (node_after volume posts name b.first) b.start;
         same = b.same ∙ sym same;
+        below = below_more then_node.held.session (omega (arith, same));
+        low = λ xs ys u is. subst (λ (e : ℕ). (node_after volume posts name xs).held.session < e) (sym same) (b.low xs ys u is);
         inputs = b.inputs ++ input ∷ [];
         are = ap (λ (o : Option Input). b.inputs ++ as_list o) (sym is) ∙ are_more;
         tagged = tagged_then;
@@ -378,14 +406,16 @@ module _ (volume : Volume) (events : List Event) (posts : List Posted) (trace : 
           ap (λ (k : KnownNode). k.state) (known_more shape posts name start done t ∙ ap (λ (k : KnownNode). after shape posts name k t) a.known_is)
           ∙ (next_state ∙ ap (λ (o : Option Input). option_map_or (λ input. (handled shape name.region known.state input).node) o known.state) is)
 
-      anew : IsStart shape volume.key judge_then name.region then_node → Begun judge_then t.sent (done ++ t ∷ []) then_node
+      anew : IsStart shape volume.key judge_then name.region then_node → known.state.held.session < then_node.held.session → Begun judge_then t.sent (done ++ t ∷ []) then_node
       unfolding after_all StaysAlong inputs_in
-      anew at = record {
+      anew at up = record {
         first = done ++ t ∷ [];
         since = [];
         whole = sym (append-nil (done ++ t ∷ []));
         start = subst (λ (k : NodeState). IsStart shape volume.key judge_then name.region k) (sym node_is) at;
         same = ap (λ (k : NodeState). k.held.session) node_is;
+        below = below_more then_node.held.session (omega (arith, up));
+        low = low_more then_node.held.session up;
         inputs = [];
         are = refl;
         tagged = λ input among rec brings. absurd among;
@@ -395,22 +425,33 @@ module _ (volume : Volume) (events : List Event) (posts : List Posted) (trace : 
         stages = stages_then;
       }
 
-      number_then : (w : IsSwitching shape name.region known.state (planned shape name.region known.state input)) → stepped.stands.m.replica.view.number ≡ stepped.stands.known.base
-      number_then w =
-          let from : BeginsFrom shape name.region known.state stepped.stands.m w.e = begins_from shape name.region known.state input w on.stands.later.parts stepped.stands.m stepped.stands.there in
-          let is_e : from.base.rec.header.session ≡ w.e = from.session in
-          let up : known.state.held.session < w.e = w.up in
-          let over : known.state.held.session < from.base.rec.header.session = omega (arith, is_e, up) in
-          let right_one : IsRightBase shape volume.key judge name.region from.base = on.stands.later.bases from.base from.among over in
-          let same : right_one.known ≡ stepped.stands.known =
-          same_Some right_one.known stepped.stands.known (sym right_one.at ∙ (ap (known_at judge) (from.session ∙ sym (switched_session shape name.region known.state input w)) ∙ stepped.stands.at)) in
-          from.number ∙ (plain_number shape volume.key judge name.region from.base right_one (b.plain from.base from.among over) ∙ ap (λ (k : Session). k.base) same)
+      module _ (w : IsSwitching shape name.region known.state (planned shape name.region known.state input)) where
+        abbrev e_is : then_node.held.session ≡ w.e
+        e_is = switched_session shape name.region known.state input w
 
-      switches : IsSwitching shape name.region known.state (planned shape name.region known.state input) → Begun judge_then t.sent (done ++ t ∷ []) then_node
-      switches w =
-          anew (start_more shape volume.key judge judge_then sized grows name.region then_node
-          (start_of shape volume.key judge name.region then_node stepped.stands
-          (new_leader_then shape name.region known.state input w on.stands.later.parts stepped.stands.m stepped.stands.there) (number_then w)))
+        from : BeginsFrom shape name.region known.state stepped.stands.m w.e
+        from = begins_from shape name.region known.state input w on.stands.later.parts stepped.stands.m stepped.stands.there
+
+        over : known.state.held.session < from.base.rec.header.session
+        over = (let is_e : from.base.rec.header.session ≡ w.e = from.session in let up : known.state.held.session < w.e = w.up in omega (arith, is_e, up))
+
+        from_plain : IsPlain from.base.rec
+        from_plain = b.plain from.base from.among over
+
+        base_then : from.base.rec.header.seq ≡ stepped.stands.known.base
+        base_then =
+            let right_one : IsRightBase shape volume.key judge name.region from.base = on.stands.later.bases from.base from.among over in
+            let same : right_one.known ≡ stepped.stands.known =
+            same_Some right_one.known stepped.stands.known (sym right_one.at ∙ (ap (known_at judge) (from.session ∙ sym e_is) ∙ stepped.stands.at)) in
+            plain_number shape volume.key judge name.region from.base right_one from_plain ∙ ap (λ (k : Session). k.base) same
+
+        switches : Begun judge_then t.sent (done ++ t ∷ []) then_node
+        switches =
+            anew (start_more shape volume.key judge judge_then sized grows name.region then_node
+            (start_of shape volume.key judge name.region then_node stepped.stands
+            (new_leader_then shape name.region known.state input w on.stands.later.parts stepped.stands.m stepped.stands.there) (from.number ∙ base_then) from.parts
+            (from.begun ∙ (tells_begun from.base from_plain ∙ ap (λ (n : ℕ). Some n) base_then))))
+            (subst (λ (e : ℕ). known.state.held.session < e) (sym e_is) w.up)
 
       begun_by : Begun judge_then t.sent (done ++ t ∷ []) then_node
       begun_by = elim stepped.session [

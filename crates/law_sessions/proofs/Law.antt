@@ -1,11 +1,9 @@
 -- At the end of each front part of a run in which the client serves: a sound node has begun the session that is served.
-use Rattle.std.proofs.Common.{◌≡◌, ◌∙◌, inl, inr, ℕ, ◌<◌, ◌≤◌, ◌+◌, ◌==◌, ◌&&◌, true, false, Bool, List, [], ◌∷◌, ◌++◌, Option, Some, refl, sym, ap, subst, arith, append_assoc, append-nil}
-use Rattle.std.proofs.lemmas.Bool.{true≢false}
+use Rattle.std.proofs.Common.{◌≡◌, ◌∙◌, inl, inr, ℕ, ◌<◌, ◌+◌, ◌==◌, ◌&&◌, true, false, List, [], ◌∷◌, ◌++◌, Some, refl, sym, ap, subst, arith, append_assoc, append-nil}
 use Rattle.std.proofs.lemmas.Option.{same_Some}
 use Rattle.salus_types.specs.Volume.{Shape}
 use Rattle.salus_types.specs.declared.names.NodeName.{NodeName}
 use Rattle.salus_types.specs.declared.names.Sender.TheVariants as sender
-use Rattle.salus_types.specs.declared.records.Record.{Record}
 use Rattle.salus_types.specs.declared.records.Base.{Base}
 use Rattle.schedule_text.specs.Limits.{IsOfVolume, IsWithinLimits}
 use Rattle.schedule_text.specs.declared.schedule.Volume.{Volume}
@@ -15,7 +13,7 @@ use Rattle.volume_model.specs.Parts.{Session, base_of}
 use Rattle.salus_model.specs.declared.trace.TraceStep.{TraceStep}
 use Rattle.salus_model.specs.Judge.{Judge, first_session, known_at}
 use Rattle.salus_model.specs.Following.{Posted, sent_by, Follows}
-use Rattle.salus_model.specs.Forgery.{IsTagged, IsPartOf, NoForgery}
+use Rattle.salus_model.specs.Forgery.{IsPartOf, NoForgery}
 use Rattle.salus_model.specs.Guarding.{is_lied_for}
 use Rattle.salus_model.specs.Hearing.{Past, judge_of}
 use Rattle.salus_model.specs.Due.{past_of, history_from}
@@ -25,9 +23,8 @@ use Rattle.holding_model.specs.Fitting.{has_content, record_fits}
 use Rattle.client_rules.specs.State as state
 use Rattle.client_rules.specs.Rules.{new_client}
 use Rattle.replica_rules.specs.Views.{header_is_right, has_right_shape}
-use Rattle.replica_rules.specs.Replicas.{is_for}
 use Rattle.replica_rules.specs.Leading.{new_leader}
-use Rattle.replica_rules.specs.Nodes.{Memory, NodeState, loaded_as}
+use Rattle.replica_rules.specs.Nodes.{NodeState, loaded_as}
 use Rattle.replica_rules.specs.Rules.{Input}
 use Rattle.run_rules.specs.Calm.{Calm, CalmFrom}
 use Rattle.run_rules.specs.Knowing.{KnownNode, fresh}
@@ -41,7 +38,7 @@ use Rattle.law_lemmas.proofs.Owned.{own_part, own_of}
 use Rattle.law_lemmas.proofs.Settled.{EachKnown, now-known}
 use Rattle.law_history.specs.Handing.{steps_in}
 use Rattle.law_history.proofs.Steps.{steps_of_all}
-use Rattle.law_answers.specs.Turning.{IsInTurn, BringsPart}
+use Rattle.law_answers.specs.Turning.{IsInTurn}
 use Rattle.law_reads.specs.Chained.{IsViewOf}
 use Rattle.law_claimed.specs.Handling.{after_all, StaysAlong, BringOnly}
 use Rattle.law_asked.proofs.Along as asked
@@ -50,7 +47,9 @@ use Rattle.law_served.proofs.Along.{on_then}
 use Rattle.law_served.proofs.Fronts.{AtFront, node_listed, first_on, fronts}
 use Rattle.law_sessions.specs.Beginning.{inputs_in, node_after, HasBegun}
 use Rattle.law_sessions.proofs.Switching.{new_memory, IsLoadedFrom, loaded_from}
-use Rattle.law_sessions.proofs.Along.{IsStart, Before, Given, On, Begun, begun_then}
+use Rattle.law_sessions.proofs.Plain.{IsPlain}
+use Rattle.law_sessions.proofs.Since.{none_before}
+use Rattle.law_sessions.proofs.Along.{Before, Given, On, Begun, tells_begun, begun_then}
 
 module _ (volume : Volume) (events : List Event) (posts : List Posted) (trace : List TraceStep) (limits : IsWithinLimits (record { volume = volume; events = events })) (strings : List (List ℕ)) (none : NoTwoCollide strings)
     (unlied : is_lied_for events sender.Client ≡ false) (name : NodeName) (sound : IsSound events trace name)
@@ -116,20 +115,31 @@ module _ (volume : Volume) (events : List Event) (posts : List Posted) (trace : 
       at = s.stands.at;
       turn = s.stands.turn;
       leader = new_memory shape name.region (formatted volume name) refl s.stands.m s.stands.there;
-      number = from.number ∙ (zero_base from.base from.among ∙ ap (λ (k : Session). k.base) (same_Some (first_session shape) s.stands.known s.stands.at));
+      number = from.number ∙ (zero_base from.base from.among ∙ first_base);
+      parts = from.parts;
+      begun = from.begun ∙ (tells_begun from.base (first_plain from.base from.among) ∙ ap (λ (n : ℕ). Some n) (zero_base from.base from.among ∙ first_base));
     };
     same = refl;
+    below = λ xs ys u none. absurd (none_before u xs ys none);
+    low = λ xs ys u none. absurd (none_before u xs ys none);
     inputs = [];
     are = refl;
     tagged = λ input among rec brings. absurd among;
     stays = tt;
     now = refl;
-    plain = λ base among over. elim among [ inl same ↦ ap (λ (b : Base). has_content b.rec.writes b.rec.run) same | inr nothing ↦ absurd nothing ];
+    plain = λ base among over. first_plain base among;
     stages = λ k counted low post at is m reads. absurd (omega (arith, counted, low));
   }
     where
       from : IsLoadedFrom shape name.region (formatted volume name) s.stands.m
       from = loaded_from shape name.region (formatted volume name) refl s.stands.m s.stands.there
+
+      first_base : 0 ≡ s.stands.known.base
+      first_base = ap (λ (k : Session). k.base) (same_Some (first_session shape) s.stands.known s.stands.at)
+
+      first_plain : (base : Base) → IsAmong base (formatted volume name).bases → IsPlain base.rec
+      first_plain base (inl same) = ap (λ (b : Base). has_content b.rec.writes b.rec.run) same
+      first_plain base (inr nothing) = absurd nothing
 
       zero_base : (base : Base) → IsAmong base (formatted volume name).bases → base.rec.header.seq ≡ 0
       zero_base base (inl same) = ap (λ (b : Base). b.rec.header.seq) same
@@ -179,12 +189,15 @@ module _ (volume : Volume) (events : List Event) (posts : List Posted) (trace : 
       first = b.first;
       since = b.since;
       whole = b.whole;
+      low = λ xs ys u is. subst (λ (e : ℕ). (node_after volume posts name xs).held.session < e) (sym b.same ∙ session) (b.low xs ys u is);
       before = b.start.before;
       there = b.start.there;
       session = b.start.session ∙ session;
       turn = subst (λ (k : Session). IsInTurn (IsPartOf shape volume.key k name.region) (IsViewOf shape k name.region) b.start.before.replica) known_is b.start.turn;
       leader = b.start.leader ∙ ap (λ (n : ℕ). new_leader n []) number;
       number = number;
+      parts = b.start.parts;
+      begun = b.start.begun ∙ ap (λ (k : Session). Some k.base) known_is;
       only = subst (λ (l : List Input). BringOnly shape name.region (IsPartOf shape volume.key judge.now name.region) b.start.before l) b.are only_own;
       stays = subst (λ (l : List Input). StaysAlong shape name.region first_node l) b.are b.stays;
       now = subst (λ (l : List Input). after_all shape name.region first_node l ≡ node_after volume posts name done) b.are (b.now ∙ here);

@@ -1,5 +1,5 @@
 -- The bases of later sessions that a node holds are as they were staged: without writes.
-use Rattle.std.proofs.Common.{◌≡◌, ◌∙◌, ◌⊎◌, inl, inr, ℕ, ◌<◌, ◌≤◌, ◌==◌, ◌&&◌, nat_le, nat_lt, Bool, true, false, if◌then◌else◌, List, [], ◌∷◌, ◌++◌, length, map, Option, None, Some, bytes_eq, refl, sym, ap, subst, arith, eqb-true}
+use Rattle.std.proofs.Common.{◌≡◌, ◌∙◌, ◌⊎◌, inl, inr, ℕ, ◌<◌, ◌==◌, ◌&&◌, nat_le, nat_lt, false, if◌then◌else◌, List, [], ◌∷◌, ◌++◌, length, map, bytes_eq, refl, sym, ap, subst, arith, eqb-true}
 use Rattle.std.specs.Prelude.{filter, Result, Ok, Err}
 use Rattle.std.specs.Option.{option_map_or}
 use Rattle.std.specs.List.{AllByRecursion}
@@ -29,7 +29,7 @@ use Rattle.replica_rules.specs.Replicas.{Replica, PartAnswer, Foreign, Known, Ea
 use Rattle.replica_rules.specs.Voting.{with_vote, with_claim}
 use Rattle.replica_rules.specs.Nodes.{Memory, NodeState, base_held}
 use Rattle.replica_rules.specs.Rules.{Turn, Plan, quiet, plan_of, ignored, told_client, in_session, then_claims, part_answered, by_part, by_ask, dumped, by_dump, with_leader, by_vote, fold_number, folds, after_fold, then_fold, by_claim, by_tick, is_carried, by_gather, same_record, says_staged, staged, staged_again, staged_whole, staged_from, staged_anew, is_staged_here, by_stage, says_switched, switched, by_switch, from_client, from_node, is_node, from_result, Input, Receives, Ticks, planned, handled}
-use Rattle.list_lemmas.proofs.Each.{either_way, any_way, all_both, all_map, all_each}
+use Rattle.list_lemmas.proofs.Each.{either_way, any_way, all_map, all_each}
 use Rattle.list_lemmas.proofs.Members.{among_map, among_filter}
 use Rattle.list_lemmas.proofs.Tests.{way_with}
 use Rattle.law_handed.proofs.Staying.{base_session, gone_session}

@@ -1,7 +1,6 @@
 -- Where all that the client sent to a sound node was taken, its view has reached each part of the session that is served.
-use Rattle.std.proofs.Common.{◌≡◌, ◌∙◌, inl, inr, ℕ, zero, suc, ◌+◌, ◌-◌, ◌<◌, ◌≤◌, ◌&&◌, ◌||◌, Bool, true, false, if◌then◌else◌, List, [], ◌∷◌, ◌++◌, reverse, length, Option, None, Some, refl, sym, ap, ap₂, subst, arith}
+use Rattle.std.proofs.Common.{◌≡◌, ◌∙◌, inl, inr, ℕ, zero, suc, ◌+◌, ◌<◌, ◌≤◌, ◌&&◌, ◌||◌, Bool, true, false, if◌then◌else◌, List, [], ◌++◌, reverse, length, Option, sym, ap, ap₂, subst, arith}
 use Rattle.std.specs.Prelude.{IfSome}
-use Rattle.std.specs.Option.{option_map_or}
 use Rattle.std.proofs.lemmas.Bool.{true≢false, cases_lt}
 use Rattle.std.proofs.lemmas.Option.{same_Some}
 use Rattle.salus_types.specs.Volume.{Shape}
@@ -12,12 +11,11 @@ use Rattle.salus_types.specs.declared.records.Record.{Record}
 use Rattle.schedule_text.specs.Limits.{IsOfVolume, IsWithinLimits}
 use Rattle.schedule_text.specs.declared.schedule.Volume.{Volume}
 use Rattle.schedule_text.specs.declared.schedule.Event.{Event}
-use Rattle.merkle_region.specs.Tree.{NoTwoCollide}
 use Rattle.volume_model.specs.Groups.{is_client, same_party}
 use Rattle.volume_model.specs.Parts.{Session, touches, batch_at, number_of}
 use Rattle.salus_model.specs.declared.trace.TraceStep.{TraceStep}
 use Rattle.salus_model.specs.Judge.{Judge, known_at}
-use Rattle.salus_model.specs.Following.{Posted, posted_at, Follows}
+use Rattle.salus_model.specs.Following.{Posted, Follows}
 use Rattle.salus_model.specs.Forgery.{IsPartOf, NoForgery}
 use Rattle.salus_model.specs.Guarding.{is_lied_for}
 use Rattle.salus_model.specs.Hearing.{judge_of}
@@ -28,10 +26,9 @@ use Rattle.client_rules.specs.State as state
 use Rattle.client_rules.specs.Rules.{new_client}
 use Rattle.replica_rules.specs.Nodes.{Memory}
 use Rattle.run_rules.specs.Calm.{Calm}
-use Rattle.run_rules.specs.Knowing.{KnownNode, fresh}
 use Rattle.run_rules.specs.Rooms.{rooms_of}
 use Rattle.run_rules.specs.Run.{IsByRules, formatted_first}
-use Rattle.run_rules.specs.Running.{known_of, formatted}
+use Rattle.run_rules.specs.Running.{formatted}
 use Rattle.run_rules.specs.Serving.{client_of}
 use Rattle.list_lemmas.proofs.Tests.{by_bool}
 use Rattle.law_lemmas.proofs.Named.{node-itself}

@@ -1,5 +1,5 @@
 -- A node that has begun the session, and has reached its parts with right votes, serves it.
-use Rattle.std.proofs.Common.{◌≡◌, ◌∙◌, ℕ, ◌≤◌, List, [], Option, Some, sym, ap}
+use Rattle.std.proofs.Common.{◌≡◌, ◌∙◌, List, Option, Some, sym, ap}
 use Rattle.std.specs.Option.{option_map_or}
 use Rattle.salus_types.specs.declared.names.NodeName.{NodeName}
 use Rattle.schedule_text.specs.declared.schedule.Volume.{Volume}
@@ -8,10 +8,10 @@ use Rattle.salus_model.specs.declared.trace.TraceStep.{TraceStep}
 use Rattle.salus_model.specs.Following.{Posted}
 use Rattle.replica_rules.specs.Nodes.{Memory, NodeState}
 use Rattle.law_claimed.specs.Handling.{after_all}
-use Rattle.law_claimed.specs.Session.{IsRooted, Serves}
+use Rattle.law_claimed.specs.Session.{Serves}
 use Rattle.law_sessions.specs.Beginning.{inputs_in, node_after, front_at, HasBegun, HasReachedAll, AreRooted}
 
-pub serves_of : (volume : Volume) (posts : List Posted) (known : Session) (name : NodeName) (done : List TraceStep) → HasBegun volume posts known name done → HasReachedAll volume posts known name done
+abbrev pub serves_of : (volume : Volume) (posts : List Posted) (known : Session) (name : NodeName) (done : List TraceStep) → HasBegun volume posts known name done → HasReachedAll volume posts known name done
     → AreRooted volume posts known name done → Serves volume.geometry volume.key known (front_at volume posts done) name
 serves_of volume posts known name done b reached rooted =
     let now : (m : Memory) → (after_all volume.geometry name.region (node_after volume posts name b.first) (inputs_in posts name b.since)).memory ≡ Some m → (node_after volume posts name done).memory ≡ Some m =

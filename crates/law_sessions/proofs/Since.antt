@@ -1,5 +1,5 @@
 -- One step more.
-use Rattle.std.proofs.Common.{◌≡◌, ◌∙◌, ℕ, Bool, true, false, if◌then◌else◌, List, [], ◌∷◌, ◌++◌, Option, None, Some, refl, sym, ap, append_assoc, append-nil}
+use Rattle.std.proofs.Common.{◌≡◌, ◌∙◌, ℕ, Bool, false, if◌then◌else◌, List, [], ◌∷◌, ◌++◌, Option, None, Some, refl, sym, ap, ap₂, subst, append_assoc, append-nil}
 use Rattle.std.specs.Option.{option_map_or}
 use Rattle.salus_types.specs.Volume.{Shape}
 use Rattle.salus_types.specs.declared.names.NodeName.{NodeName}
@@ -27,6 +27,31 @@ unfolding inputs_in
 inputs_more posts name [] t = append-nil (as_list (input_at posts name t))
 inputs_more posts name (s ∷ steps) t =
     ap (λ (l : List Input). as_list (input_at posts name s) ++ l) (inputs_more posts name steps t) ∙ sym (append_assoc (as_list (input_at posts name s)) (inputs_in posts name steps) (as_list (input_at posts name t)))
+
+-- ---- before the last step
+
+pub none_before : {A : Type 0} (x : A) (xs ys : List A) → [] ≡ xs ++ x ∷ ys → ⊥
+none_before x [] ys same = absurd (cc)
+none_before x (y ∷ xs) ys same = absurd (cc)
+
+-- what is a front part of the steps with one more, and not all of them, is one of the steps
+split_before : {A : Type 0} (done : List A) (t : A) (xs ys : List A) (u : A) → done ++ t ∷ [] ≡ xs ++ u ∷ ys → (zs : List A) × (done ≡ xs ++ zs)
+split_before {A = A} [] t [] ys u same = ([], refl)
+split_before {A = A} [] t (x ∷ xs) ys u same = absurd (none_before u xs ys cc)
+split_before {A = A} (d ∷ done) t [] ys u same = (d ∷ done, refl)
+split_before {A = A} (d ∷ done) t (x ∷ xs) ys u same =
+    let head : d ≡ x = cc in
+    let found = split_before done t xs ys u cc in
+    (found.0, ap₂ (λ (a : A) (l : List A). a ∷ l) head found.1)
+
+-- So what holds of the steps, and of each shorter front part of them, holds of each shorter one of those with one more.
+pub before_last : (P : List TraceStep → Type 0) (done : List TraceStep) (t : TraceStep) → P done → ((xs ys : List TraceStep) (u : TraceStep) → done ≡ xs ++ u ∷ ys → P xs)
+    → (xs ys : List TraceStep) (u : TraceStep) → done ++ t ∷ [] ≡ xs ++ u ∷ ys → P xs
+before_last P done t here each xs ys u same = let found = split_before done t xs ys u same in by found.0 found.1
+  where
+    by : (zs : List TraceStep) → done ≡ xs ++ zs → P xs
+    by [] is = subst P (is ∙ append-nil xs) here
+    by (z ∷ zs) is = each xs zs z is
 
 -- ---- the inputs
 

@@ -1,26 +1,24 @@
 -- A node that switches begins anew: with no vote, no claim and no header, and its leader at the view's number.
-use Rattle.std.proofs.Common.{◌≡◌, ◌∙◌, ◌⊎◌, inl, inr, ℕ, ◌<◌, ◌≤◌, ◌==◌, ◌&&◌, nat_le, nat_lt, Bool, true, false, if◌then◌else◌, List, [], ◌∷◌, Option, None, Some, refl, sym, ap, subst, arith, eqb-true}
-use Rattle.std.specs.Prelude.{filter, option_map, Result, Ok}
+use Rattle.std.proofs.Common.{◌≡◌, ◌∙◌, ◌⊎◌, inl, inr, ℕ, ◌<◌, ◌≤◌, ◌==◌, nat_le, nat_lt, Bool, false, if◌then◌else◌, List, [], ◌∷◌, Option, None, Some, refl, sym, ap, subst, arith, eqb-true}
+use Rattle.std.specs.Prelude.{filter, option_map, Result}
 use Rattle.std.specs.Option.{option_map_or}
 use Rattle.std.specs.List.{AllByRecursion}
 use Rattle.std.proofs.lemmas.Bool.{ltb-true, ne_eqb}
 use Rattle.std.proofs.lemmas.Option.{same_Some}
 use Rattle.salus_types.specs.Volume.{Shape}
-use Rattle.salus_types.specs.declared.names.NodeName.{NodeName}
 use Rattle.salus_types.specs.declared.names.Sender.TheVariants as sender
 use Rattle.salus_types.specs.declared.records.Record.{Record}
 use Rattle.salus_types.specs.declared.records.Base.{Base}
 use Rattle.salus_types.specs.declared.records.Held.{Held}
 use Rattle.salus_message.specs.declared.wire.Message.{Message}
 use Rattle.salus_message.specs.declared.wire.MessageError.{MessageError}
-use Rattle.salus_message.specs.Reading.{message_at}
 use Rattle.merkle_region.specs.Tree.{IsAmong}
 use Rattle.holding_model.specs.Fitting.{has_shape}
 use Rattle.volume_model.specs.Recovering.{is_of}
 use Rattle.holding_model.specs.Changing.{Change, SwitchesTo, changed, after_changes}
 use Rattle.replica_rules.specs.Views.{view_of_base}
 use Rattle.replica_rules.specs.Leading.{new_leader, noted_with}
-use Rattle.replica_rules.specs.Nodes.{Memory, NodeState, stands_for, base_held, open_parts, all_tried, memory_of, open_base, loaded_as}
+use Rattle.replica_rules.specs.Nodes.{Memory, NodeState, stands_for, base_held, open_parts, all_tried, begun_with, memory_of, open_base, loaded_as}
 use Rattle.replica_rules.specs.Rules.{Plan, ignored, says_switched, switched, by_switch, from_result, Input, Receives, Ticks, planned, handled}
 use Rattle.list_lemmas.proofs.Each.{either_way, any_way, all_then, all_filter}
 use Rattle.list_lemmas.proofs.Members.{among_filter, find_among}
@@ -50,6 +48,8 @@ pub record IsLoadedFrom (shape : Shape) (g : ℕ) (held : Held) (m : Memory) : T
   pub among : IsAmong base held.bases
   pub session : base.rec.header.session ≡ held.session
   pub number : m.replica.view.number ≡ base.rec.header.seq
+  pub parts : m.parts ≡ []
+  pub begun : m.begun ≡ begun_with base
 
 pub loaded_from : (shape : Shape) (g : ℕ) (held : Held) → open_parts held ≡ [] → (m : Memory) → (loaded_as shape g held).memory ≡ Some m → IsLoadedFrom shape g held m
 unfolding loaded_as all_tried
@@ -69,6 +69,8 @@ loaded_from shape g held empty m is =
               (and_left (base.rec.header.session == held.session) (base.rec.header.region == g) (and_left (is_of held.session g base.rec.header) (has_shape shape base.blocks) there.1));
           number = ap (λ (k : Memory). k.replica.view.number) (sym (same_Some (memory_of shape g held base) m some))
               ∙ ap (λ (l : List Record). (all_tried shape g (view_of_base base) l).view.number) empty;
+          parts = ap (λ (k : Memory). k.parts) (sym (same_Some (memory_of shape g held base) m some)) ∙ ap (λ (l : List Record). (all_tried shape g (view_of_base base) l).parts) empty;
+          begun = ap (λ (k : Memory). k.begun) (sym (same_Some (memory_of shape g held base) m some));
         }
 
 none_pass : {A : Type 0} (test : A → Bool) (xs : List A) → AllByRecursion (λ x. test x ≡ false) xs → filter test xs ≡ []
@@ -129,6 +131,8 @@ module _ (shape : Shape) (g : ℕ) (node : NodeState) where
     pub among : IsAmong base node.held.bases
     pub session : base.rec.header.session ≡ e
     pub number : m.replica.view.number ≡ base.rec.header.seq
+    pub parts : m.parts ≡ []
+    pub begun : m.begun ≡ begun_with base
 
   pub begins_from : (input : Input) (w : IsSwitching (planned shape g node input)) → AllByRecursion (λ (rec : Record). rec.header.session ≤ now) node.held.parts → (m : Memory)
       → (handled shape g node input).node.memory ≡ Some m → BeginsFrom m w.e
@@ -136,7 +140,7 @@ module _ (shape : Shape) (g : ℕ) (node : NodeState) where
   begins_from input w low m there = by (loaded_from shape g (changed shape node.held (SwitchesTo w.e)) (switch_empty w.e w.up low) m (ap (λ (p : Plan). p.memory) (sym w.is) ∙ there))
     where
       by : IsLoadedFrom shape g (changed shape node.held (SwitchesTo w.e)) m → BeginsFrom m w.e
-      by from = record { base = from.base; among = (among_filter (λ b. nat_le w.e b.rec.header.session) from.base node.held.bases from.among).0; session = from.session; number = from.number }
+      by from = record { base = from.base; among = (among_filter (λ b. nat_le w.e b.rec.header.session) from.base node.held.bases from.among).0; session = from.session; number = from.number; parts = from.parts; begun = from.begun }
 
   pub switched_session : (input : Input) (w : IsSwitching (planned shape g node input)) → (handled shape g node input).node.held.session ≡ w.e
   unfolding after_changes changed

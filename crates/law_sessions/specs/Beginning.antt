@@ -1,5 +1,5 @@
 -- How a node of a run came into its session: after which steps it began, and what it has handled since.
-use Rattle.std.specs.Prelude.{◌≡◌, ℕ, ◌≤◌, if◌then◌else◌, List, [], ◌∷◌, ◌++◌, Option, None, Some}
+use Rattle.std.specs.Prelude.{◌≡◌, ℕ, ◌<◌, ◌≤◌, if◌then◌else◌, List, [], ◌∷◌, ◌++◌, Option, None, Some}
 use Rattle.std.specs.Option.{option_map_or}
 use Rattle.salus_types.specs.declared.names.NodeName.{NodeName}
 use Rattle.salus_types.specs.declared.records.Record.{Record}
@@ -38,19 +38,23 @@ node_after volume posts name steps = (known_of volume.geometry posts name (fresh
 
 -- ---- the session of a node
 
--- The node began the session after some of the steps: with its replica in its turn, at the number with which the session
--- starts, and a leader with no vote, no claim and no header. It has stayed in it since, through what it was handed; and the parts of the session and its
--- region that it was handed are the client's.
+-- The node began the session after some of the steps, before which it had a lower one: with its replica in its turn, at the
+-- number with which the session starts, and a leader with no vote, no claim and no header; with no part, and as one that has
+-- claimed nothing yet. It has stayed in it since, through what it was handed; and the parts of the session and its region that
+-- it was handed are the client's.
 pub record HasBegun (volume : Volume) (posts : List Posted) (known : Session) (name : NodeName) (done : List TraceStep) : Type 0 where
   pub first : List TraceStep
   pub since : List TraceStep
   pub whole : done ≡ first ++ since
+  pub low : (xs ys : List TraceStep) (t : TraceStep) → first ≡ xs ++ t ∷ ys → (node_after volume posts name xs).held.session < known.session
   pub before : Memory
   pub there : (node_after volume posts name first).memory ≡ Some before
   pub session : before.replica.session ≡ known.session
   pub turn : IsInTurn (IsPartOf volume.geometry volume.key known name.region) (IsViewOf volume.geometry known name.region) before.replica
   pub number : before.replica.view.number ≡ known.base
   pub leader : before.leader ≡ new_leader known.base []
+  pub parts : before.parts ≡ []
+  pub begun : before.begun ≡ Some known.base
   pub only : BringOnly volume.geometry name.region (IsPartOf volume.geometry volume.key known name.region) before (inputs_in posts name since)
   pub stays : StaysAlong volume.geometry name.region (node_after volume posts name first) (inputs_in posts name since)
   pub now : after_all volume.geometry name.region (node_after volume posts name first) (inputs_in posts name since) ≡ node_after volume posts name done

@@ -30,9 +30,10 @@ ghost use Rattle.law_sessions.specs.Beginning.{front_at, HasBegun, HasReachedAll
 /// Does nothing: its clause is the law. In a run that follows a schedule in its limits, by the rules of nodes and client from a
 /// formatted volume on, in which calls fail only where they may, no two different strings seen share a digest, no tag is
 /// forged, and nobody lies in the client's name: where the client serves after some of the steps, each sound node of the volume
-/// has begun the session that is served. It began at the number with which the session starts, with a new leader and its replica
-/// in its turn; it has stayed in the session through all that it was handed since, and is what its rules make of that; and the
-/// parts of the session that it was handed are the client's.
+/// has begun the session that is served. It had a lower session before, and began at the number with which the session starts:
+/// with a new leader and its replica in its turn, with no part, and as one that has claimed nothing. It has stayed in the session
+/// through all that it was handed since, and is what its rules make of that; and the parts of the session that it was handed are
+/// the client's.
 pub fn nodes_begin_their_session()
     ensures { (volume : Volume) (events : List Event) (posts : List Posted) (trace : List TraceStep)
         → IsWithinLimits (record { volume = volume; events = events })

@@ -4,3 +4,4 @@ pub mod Worded
 pub mod Spelled
 pub mod Complete
 pub mod Commanded
+pub mod Disked

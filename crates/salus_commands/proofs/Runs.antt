@@ -1,5 +1,5 @@
 -- What a whole run has, by the laws.
-use Rattle.std.proofs.Common.{◌≡◌, ◌∙◌, List, [], ap, sym, subst}
+use Rattle.std.proofs.Common.{◌≡◌, ◌∙◌, false, List, [], ap, sym, subst}
 use Rattle.schedule_text.specs.declared.schedule.Volume.{Volume}
 use Rattle.schedule_text.specs.declared.schedule.Event.{Event}
 use Rattle.schedule_text.specs.Grammar.{sessions_of}
@@ -8,11 +8,10 @@ use Rattle.salus_model.specs.declared.trace.TraceStep.{TraceStep}
 use Rattle.salus_model.specs.Following.{Posted, Follows}
 use Rattle.salus_model.specs.Judge.{LegalHistory, KeepsAcknowledged}
 use Rattle.salus_model.specs.Guarding.{Guarded}
-use Rattle.salus_model.specs.Due.{lines_due, lines_from, history_from}
-use Rattle.salus_model.specs.Quiet.{Quiet}
+use Rattle.salus_model.specs.Due.{lines_due, lines_from}
 use Rattle.salus_model.specs.Seen.{NoCollision}
 use Rattle.salus_model.specs.Forgery.{NoForgery}
-use Rattle.salus_model.specs.Complete.{ReadsBesideLies}
+use Rattle.salus_model.specs.Complete.{CompleteWhenQuiet, ReadsBesideLies}
 use Rattle.client_rules.specs.Rules.{new_client, client_lines}
 use Rattle.run_rules.specs.Run.{IsByRules, formatted_first}
 use Rattle.run_rules.specs.Running.{formatted}
@@ -22,7 +21,6 @@ use Rattle.run_rules.specs.Serving.{ClientByRules}
 use Rattle.law_lines.specs.Running.{told_pasts, run_lines}
 use Rattle.law_kept.specs.Losing.{NoneIsLost}
 use Rattle.law_covered.specs.Coverage.{CoveredThroughout}
-use Rattle.law_opens.specs.Opening.{LastOpens}
 use Rattle.run_course.proofs.Going.{Whole, goes_whole}
 use Rattle.salus_world.specs.Runs.{Runs}
 use Rattle.salus_commands.specs.Replaying.{IsRun}
@@ -40,8 +38,10 @@ pub record Lawful (volume : Volume) (events : List Event) (posts : List Posted) 
       → CoveredThroughout volume events posts trace
   pub reads : NoCollision volume events posts trace → NoForgery volume events posts trace → Calm events trace → IsByRules volume (formatted_first volume) posts trace
       → ReadsBesideLies volume events posts (rooms_of volume.geometry posts (formatted volume)) trace
-  pub opens : NoCollision volume events posts trace → NoForgery volume events posts trace → Calm events trace → IsByRules volume (formatted_first volume) posts trace
-      → Quiet events posts trace → LastOpens volume.geometry events (history_from volume events posts [] trace)
+  pub reads_handed : NoCollision volume events posts trace → NoForgery volume events posts trace → Calm events trace → IsByRules volume (formatted_first volume) posts trace
+      → Guarded volume events posts trace → ReadsBesideLies volume events posts (λ earlier step. false) trace
+  pub answers : NoCollision volume events posts trace → NoForgery volume events posts trace → Calm events trace → IsByRules volume (formatted_first volume) posts trace
+      → CompleteWhenQuiet volume events posts trace
   pub closed_steps : sessions_of events ≡ [] → NoCollision volume events posts trace → ClientByRules volume (new_client volume.geometry) posts trace
   pub closed_lines : sessions_of events ≡ [] → NoCollision volume events posts trace → told ≡ client_lines volume posts (new_client volume.geometry) trace
   pub closed_due : sessions_of events ≡ [] → run_lines volume events posts trace ≡ lines_due volume events posts trace
@@ -72,7 +72,8 @@ of_run volume events lines posts r laws =
           (subst (KeepsAcknowledged volume.geometry events) same told.0, subst NoneIsLost same told.1);
       covered = λ none unforged guarded. law.covered none unforged (record { nodes = r.nodes; client = law.steps none unforged }) guarded;
       reads = λ none unforged. law.reads none unforged r.calm (record { nodes = r.nodes; client = law.steps none unforged });
-      opens = λ none unforged quiet. law.opens none unforged r.calm (record { nodes = r.nodes; client = law.steps none unforged }) quiet;
+      reads_handed = λ none unforged guarded. law.reads_handed none unforged r.calm (record { nodes = r.nodes; client = law.steps none unforged }) guarded;
+      answers = λ none unforged. law.answers none unforged r.calm (record { nodes = r.nodes; client = law.steps none unforged });
       closed_by_rules = law.closed_steps;
       closed_exact = λ closed none. by_client (law.closed_lines closed none) ∙ law.closed_due closed;
     }

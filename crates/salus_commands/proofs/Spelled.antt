@@ -1,16 +1,15 @@
 -- What is read from the left is the command of the words, and there is no other.
-use Rattle.std.proofs.Common.{◌≡◌, ◌∙◌, ℕ, ◌≤◌, true, false, leb, List, [], ◌∷◌, refl, sym, ap, ap₂, subst, inl, inr}
+use Rattle.std.proofs.Common.{◌≡◌, ◌∙◌, ℕ, true, leb, List, [], ◌∷◌, refl, ap, ap₂, subst, inl, inr}
 use Rattle.std.specs.Prelude.{Option, None, Some, codes}
 use Rattle.std.specs.Str.{bytes_eq}
 use Rattle.std.proofs.lemmas.Bool.{and_parts, and_from, leb-true, le-leb}
 use Rattle.std.proofs.lemmas.Slice.Eq.{bytes_eq-Decides}
-use Rattle.text_words.specs.Grammar.{IsNumber}
 use Rattle.text_words.specs.Reading.{number_of}
 use Rattle.text_words.proofs.Settled.{Settles, chosen, pick_true}
 use Rattle.text_words.proofs.Numerals.{number-settles}
 use Rattle.salus_commands.specs.declared.words.Command.{Command}
 use Rattle.salus_commands.specs.declared.words.Command.TheVariants as command
-use Rattle.salus_commands.specs.Words.{IsRounds, IsSeeded, IsCommand, AreWords}
+use Rattle.salus_commands.specs.Words.{IsSeeded, IsCommand}
 use Rattle.salus_commands.specs.Spelling.{are_rounds, seeded, numbered, lone, command_of}
 
 pub same_command : (a b : Command) → ◌≡◌ {A = Option Command} (Some a) (Some b) → a ≡ b

@@ -1,5 +1,5 @@
 -- What each command has done at each status.
-use Rattle.std.specs.Prelude.{◌≡◌, ℕ, ◌≤◌, List, [], length, Option}
+use Rattle.std.specs.Prelude.{◌≡◌, ℕ, ◌≤◌, List, length, Option}
 use Rattle.salus_io.specs.Told.{IsAtEnd, Appends, AppendsPrefix}
 use Rattle.printed_lines.specs.LineText.{text_of}
 use Rattle.schedule_text.specs.Printing.{printed}

@@ -1,5 +1,5 @@
 -- What each status says of source, sink and report.
-use Rattle.std.specs.Prelude.{◌≡◌, ℕ, ◌⊎◌, List, [], Option, Some, IfSome}
+use Rattle.std.specs.Prelude.{◌≡◌, ℕ, ◌⊎◌, List, Option, Some, IfSome}
 use Rattle.salus_io.specs.Told.{ConsumesMore, IsAtEnd, Appends, AppendsPrefix}
 use Rattle.printed_lines.specs.LineText.{text_of}
 use Rattle.schedule_text.specs.declared.schedule.Schedule.{Schedule}

@@ -54,6 +54,11 @@ fn do_command<S: Source, K: Sink>(
 /// are no command. 3: the text is no schedule, and the line `error L C` is written, with the number of its first wrong line and
 /// the cause. 4: the source failed. 5: the sink failed, and holds a front part of the text. 6: there was no
 /// memory; the sink holds nothing more than before, or a front part of the text.
+///
+/// What holds of a run, be it a replay's or a trial's, is said once (`Replays`, with `IsRun`). It follows the schedule, nodes and
+/// client go by their rules, and, where no two different strings seen share a digest and no lie brings a forged tag: its lines are
+/// those due, and a legal history of one array; where each group keeps a server that counts, nothing acknowledged is lost, and the
+/// disks that the run leaves have all of it; a read that has a sound server ends beside lies; and a quiet run is complete.
 pub fn salus<S: Source, K: Sink>(
     alloc: Global,
     words: &Vec<String>,

@@ -1,9 +1,10 @@
+use Rattle.std.proofs.Common.{refl}
 use Rattle.salus_commands.proofs.Runs.{of_run}
 use Rattle.salus_commands.proofs.replay.replay.Goals as goal
 
 pub returns : goal.returns
 returns c =
-    let r = c.in_ok-ran.ensures.runs in
+    let r = c.in_ok-ran.ensures.ends.runs in
     let trace = r.course.trace in
     record {
       trace = trace;
@@ -19,9 +20,15 @@ returns c =
         );
         covered = λ none unforged by guarded. c.counting_nodes_cover.ensures _ _ _ trace c.requires follows none unforged by guarded;
         reads = λ none unforged calm by. c.reads_end_beside_every_lie.ensures _ _ _ trace c.requires follows none unforged calm by;
-        opens = λ none unforged calm by quiet. c.last_session_opens.ensures _ _ _ trace c.requires follows none unforged calm by quiet;
+        reads_handed = λ none unforged calm by guarded. c.reads_end_with_room.ensures _ _ _ trace c.requires follows none unforged calm by guarded;
+        answers = λ none unforged calm by. c.quiet_runs_are_complete.ensures _ _ _ trace c.requires follows none unforged calm by;
         closed_steps = λ closed none. c.runs_are_apart.ensures.steps _ _ _ trace c.requires closed follows none r.client;
         closed_lines = λ closed none. c.runs_are_apart.ensures.lines _ _ _ trace r.course.told c.requires closed follows none r.told;
         closed_due = λ closed. c.runs_are_apart.ensures.due _ _ _ trace c.requires closed follows;
       });
+      left = c.in_ok-ran.ran;
+      reported = refl;
+      ends = c.in_ok-ran.ensures.ends;
+      same_trace = refl;
+      disks = c.in_ok-ran.ensures.disks;
     }

@@ -1,0 +1,9 @@
+pub mod Heads
+pub mod Asks
+pub mod Waits
+pub mod Fair
+pub mod Owed
+pub mod Gave
+pub mod Along
+pub mod Ended
+pub mod Law

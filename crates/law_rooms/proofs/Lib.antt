@@ -1,0 +1,5 @@
+pub mod Apart
+pub mod Counting
+pub mod Fronts
+pub mod Early
+pub mod Law

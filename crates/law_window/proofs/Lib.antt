@@ -1,0 +1,5 @@
+pub mod Sends
+pub mod Acked
+pub mod Wide
+pub mod Behind
+pub mod Law
