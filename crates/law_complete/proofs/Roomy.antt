@@ -29,8 +29,8 @@ use Rattle.list_lemmas.proofs.Members.{among_all}
 use Rattle.list_lemmas.proofs.Tests.{by_bool, or_true}
 use Rattle.law_lemmas.proofs.Named.{one-node}
 use Rattle.law_reads.proofs.Events.{OfHanded, Of, of_events}
-use Rattle.law_rooms.specs.Room.{AlwaysHasRoom}
-use Rattle.law_rooms.proofs.Law.{guarded_room}
+use Rattle.law_complete.specs.Room.{AlwaysHasRoom}
+use Rattle.law_complete.proofs.RoomsLaw.{guarded_room}
 use Rattle.law_served.proofs.Law.{reads_end}
 
 -- no step finds no room

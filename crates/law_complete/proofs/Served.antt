@@ -32,11 +32,11 @@ use Rattle.law_claimed.specs.Knowing.{IsOwnBatch, Leads}
 use Rattle.law_claimed.specs.Session.{Brings, IsServed}
 use Rattle.law_claimed.proofs.Sessions.{all_batches_claimed}
 use Rattle.law_records.specs.Sessions.{IsCountable}
-use Rattle.law_faults.proofs.Quietly.{none_lied, quiet_sound}
-use Rattle.law_sessions.specs.Beginning.{inputs_in, node_after, front_at, HasBegun, HasReachedAll, AreRooted}
-use Rattle.law_sessions.proofs.Law.{nodes_begin}
-use Rattle.law_sessions.proofs.Reached.{parts_reached}
-use Rattle.law_sessions.proofs.Serving.{serves_of}
+use Rattle.law_complete.proofs.FaultsQuietly.{none_lied, quiet_sound}
+use Rattle.law_complete.specs.Beginning.{inputs_in, node_after, front_at, HasBegun, HasReachedAll, AreRooted}
+use Rattle.law_complete.proofs.SessionsLaw.{nodes_begin}
+use Rattle.law_complete.proofs.Reached.{parts_reached}
+use Rattle.law_complete.proofs.Serving.{serves_of}
 use Rattle.law_complete.proofs.Ending.{leads_touched}
 
 -- a node that is listed is one of the volume

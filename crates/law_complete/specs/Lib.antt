@@ -1,1 +1,4 @@
--- This crate has no definitions of its own.
+pub mod Faulting
+pub mod Beginning
+pub mod Room
+pub mod Opening

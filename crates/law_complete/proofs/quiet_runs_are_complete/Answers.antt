@@ -1,5 +1,0 @@
-use Rattle.law_complete.proofs.Whole.{complete_when_quiet}
-use Rattle.law_complete.proofs.quiet_runs_are_complete.Goals as goal
-
-pub returns : goal.returns
-returns c = complete_when_quiet

@@ -1,4 +1,0 @@
-pub mod Quietly
-pub mod Lines
-pub mod Unstruck
-pub mod Run

@@ -1,9 +1,0 @@
-pub mod Heads
-pub mod Asks
-pub mod Waits
-pub mod Fair
-pub mod Owed
-pub mod Gave
-pub mod Along
-pub mod Ended
-pub mod Law
